@@ -1,0 +1,36 @@
+// Mappings of bits to symbols.
+pub mod fault;
+
+ghost use mathlib.Core.Path.{_≡_};
+ghost use Rattle.mapping.specs.Maps.{Map, Lawful};
+ghost use Rattle.mapping.specs.Answers.{Steps, Reads};
+use bits::BadCall;
+use fault::ReadFault;
+
+// A mapping. Its ghost member is the mapping as a value of the specs.
+pub trait Mapping: Copy {
+    // the bits in a symbol, 1 to 3
+    const W: usize;
+    // the count of symbol numbers, 2 to 256
+    const Q: usize;
+
+    ghost map: { Map };
+
+    law lawful: { Lawful map };
+
+    // W, for generic code
+    fn width(&self) -> usize
+        ensures { λ r. ⌜ r ≡ map .w ⌝ };
+
+    // Q, for generic code
+    fn order(&self) -> usize
+        ensures { λ r. ⌜ r ≡ map .q ⌝ };
+
+    // The symbol to which the bits lead from the prior symbol.
+    fn step(&self, prior: u8, bits: &[u8]) -> Result<u8, BadCall>
+        ensures { λ r. ⌜ Steps map prior (now (bits .entry)) r ⌝ };
+
+    // Writes the bits that lead from the prior symbol to the next.
+    fn read(&self, prior: u8, next: u8, bits: &mut [u8]) -> Result<(), ReadFault>
+        ensures { λ r. ⌜ Reads map prior next (now (bits .entry)) (now (bits .exit)) r ⌝ };
+}
