@@ -4,7 +4,7 @@ pub mod bad_call;
 ghost use Rattle.std.specs.Orderings.{Decides};
 ghost use Rattle.std.specs.shelf.Lists.{All};
 ghost use mathlib.Core.Path.{_≡_};
-ghost use Rattle.bits.specs.Strings.{Bit};
+ghost use Rattle.bits.specs.Strings.{Bit, Bits};
 ghost use Rattle.bits.specs.Refusals.{number, layer, place};
 pub use bad_call::BadCall;
 pub use bad_call::BadCallDebug;
@@ -42,6 +42,13 @@ pub fn are_bits(xs: &[u8]) -> bool
     true
 }
 
+// Whether the slice is a string of n bits.
+pub fn is_string(xs: &[u8], n: usize) -> bool
+    ensures { λ r. ⌜ Decides r (Bits n (now (xs .entry))) ⌝ }
+{
+    xs.len() == n && are_bits(xs)
+}
+
 #[cfg(test)]
 mod tests {
     use super::*;
@@ -52,7 +59,10 @@ mod tests {
         check(are_bits(&[]))?;
         check(are_bits(&[0, 1, 1, 0]))?;
         check(!are_bits(&[2]))?;
-        check(!are_bits(&[0, 1, 0, 255]))
+        check(!are_bits(&[0, 1, 0, 255]))?;
+        check(is_string(&[0, 1, 1], 3))?;
+        check(!is_string(&[0, 1, 1], 4))?;
+        check(!is_string(&[0, 2, 1], 3))
     }
 
     #[test]

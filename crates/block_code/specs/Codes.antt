@@ -29,6 +29,15 @@ distance (x ∷ xs) (y ∷ ys) = cond (eqb x y) 0 1 + distance xs ys
 abbrev pub Apart : Code → ℕ → Type 0
 Apart c d = (m n : List ℕ) → Bits (c .k) m → Bits (c .k) n → (m ≡ n → ⊥) → d ≤ distance (word c m) (word c n)
 
+-- d is the smallest distance of two words
+pub record MinimumDistance (c : Code) (d : ℕ) : Type 0 where
+  pub apart : Apart c d
+  pub one : List ℕ
+  pub other : List ℕ
+  pub valid : Bits (c .k) one × Bits (c .k) other
+  pub differ : one ≡ other → ⊥
+  pub so-near : distance (word c one) (word c other) ≡ d
+
 -- what every block code keeps
 pub record Lawful (c : Code) : Type 0 where
   pub some : 1 ≤ c .k
