@@ -88,14 +88,14 @@ impl Bch63 {
     pub fn generator(&self) -> u16
         ensures { λ r. ⌜ (r ≡ 5433) × Divides r ⌝ }
     {
-        5433
+        0b1_0101_0011_1001
     }
 
     // The smallest number of places in which two words differ.
     pub fn minimum_distance(&self) -> usize
         ensures { λ r. ⌜ MinimumDistance theCode r ⌝ }
     {
-        5
+        2 * self.reach() + 1
     }
 
     // The two sums over the set powers of 63 bits. Both are zero exactly of a word.
@@ -104,10 +104,11 @@ impl Bch63 {
         ensures vanish { λ _. ⌜ Vanish ⌝ }
         ensures only { λ _. ⌜ Only ⌝ }
     {
-        if !is_string(bits, 63) {
-            return Err(BadCall);
+        if is_string(bits, 63) {
+            Ok(sums(bits))
+        } else {
+            Err(BadCall)
         }
-        Ok(sums(bits))
     }
 }
 
@@ -165,7 +166,7 @@ fn remainder(message: &[u8]) -> u16
         let top = (r >> 11) & 1 ^ *b as u16;
         r = (r << 1) & 0xfff;
         if top == 1 {
-            r ^= 1337;
+            r ^= 0b0101_0011_1001;
         }
     }
     r
