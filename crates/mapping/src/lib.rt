@@ -1,11 +1,14 @@
 // Mappings of bits to symbols.
 pub mod fault;
+pub mod phase;
 
 ghost use mathlib.Core.Path.{_≡_};
 ghost use Rattle.mapping.specs.Maps.{Map, Lawful};
 ghost use Rattle.mapping.specs.Answers.{Steps, Reads};
+ghost use Rattle.mapping.specs.Laws.{Lawful-is-defined as LawfulIsDefined, Reads-back as ReadsBack};
 use bits::BadCall;
 use fault::ReadFault;
+use fault::ReadFaultFromBadCall;
 
 // A mapping. Its ghost member is the mapping as a value of the specs.
 pub trait Mapping: Copy {
@@ -33,4 +36,13 @@ pub trait Mapping: Copy {
     // Writes the bits that lead from the prior symbol to the next.
     fn read(&self, prior: u8, next: u8, bits: &mut [u8]) -> Result<(), ReadFault>
         ensures { λ r. ⌜ Reads map prior next (now (bits .entry)) (now (bits .exit)) r ⌝ };
+}
+
+// Steps with the bits, and reads the step: the places hold the bits again.
+pub fn read_back<M: Mapping>(mapping: &M, prior: u8, bits: &[u8], places: &mut [u8]) -> Result<(), ReadFault>
+    ensures back { λ r. ⌜ ReadsBack (M·Mapping .map) prior (now (bits .entry)) (now (places .entry)) (now (places .exit)) r ⌝ }
+    ensures defined { λ _. ⌜ LawfulIsDefined ⌝ }
+{
+    let next = mapping.step(prior, bits)?;
+    mapping.read(prior, next, places)
 }
