@@ -23,26 +23,26 @@ cases-bits zero [] = inl (record { size = refl; bits = tt })
 cases-bits zero (x ∷ xs) = inr (λ b. let e : suc (length xs) ≡ 0 = b .size in omega arith)
 cases-bits (suc n) [] = inr (λ b. let e : 0 ≡ suc n = b .size in omega arith)
 cases-bits (suc n) (x ∷ xs) =
-    elim (cases-lt x 2)
-    [ inr h ↦ inr (λ b. let l : x < 2 = b .bits .0 in omega arith)
-    | inl h ↦
-        elim (cases-bits n xs)
-        [ inl b ↦ inl (record { size = ap suc (b .size); bits = (h, b .bits) })
-        | inr no′ ↦ inr (λ b. no′ (record { size = let e : suc (length xs) ≡ suc n = b .size in omega arith; bits = b .bits .1 }))
-        ]
+    elim (cases-lt x 2) [
+      | inr h ↦ inr (λ b. let l : x < 2 = b .bits .0 in omega arith)
+      | inl h ↦
+          elim (cases-bits n xs) [
+            | inl b ↦ inl (record { size = ap suc (b .size); bits = (h, b .bits) })
+            | inr no′ ↦ inr (λ b. no′ (record { size = let e : suc (length xs) ≡ suc n = b .size in omega arith; bits = b .bits .1 }))
+          ]
     ]
 
 cases-readable : (m : Map) (prior next : ℕ) (places : List ℕ) → Readable m prior next places ⊎ (Readable m prior next places → ⊥)
 cases-readable m prior next places =
-    elim (cases-lt prior (m .q))
-    [ inr h ↦ inr (λ r. let l : prior < m .q = r .from in omega arith)
-    | inl h ↦
-        elim (cases-lt next (m .q))
-        [ inr k ↦ inr (λ r. let l : next < m .q = r .to in omega arith)
-        | inl k ↦
-            elim (cases-eq (length places) (m .w))
-            [ inl e ↦ inl (record { from = h; to = k; size = e }) | inr no′ ↦ inr (λ r. no′ (r .size)) ]
-        ]
+    elim (cases-lt prior (m .q)) [
+      | inr h ↦ inr (λ r. let l : prior < m .q = r .from in omega arith)
+      | inl h ↦
+          elim (cases-lt next (m .q)) [
+            | inr k ↦ inr (λ r. let l : next < m .q = r .to in omega arith)
+            | inl k ↦
+                elim (cases-eq (length places) (m .w))
+                [ inl e ↦ inl (record { from = h; to = k; size = e }) | inr no′ ↦ inr (λ r. no′ (r .size)) ]
+          ]
     ]
 
 longer : (n b : ℕ) (bs : List ℕ) → b < 2 → Bits n bs → Bits (suc n) (b ∷ bs)
@@ -74,22 +74,22 @@ find zero next f =
     elim (cases-eq (f []) next)
     [ inl e ↦ inl ([], record { size = refl; bits = tt }, e) | inr h ↦ inr (none-empty next f h) ]
 find (suc n) next f =
-    elim (find n next (λ bs. f (0 ∷ bs)))
-    [ inl p ↦ inl (0 ∷ p .0, longer n 0 (p .0) (omega arith) (p .1), p .2)
-    | inr h ↦
-        elim (find n next (λ bs. f (1 ∷ bs)))
-        [ inl p ↦ inl (1 ∷ p .0, longer n 1 (p .0) (omega arith) (p .1), p .2)
-        | inr k ↦ inr (none-longer n next f h k)
-        ]
+    elim (find n next (λ bs. f (0 ∷ bs))) [
+      | inl p ↦ inl (0 ∷ p .0, longer n 0 (p .0) (omega arith) (p .1), p .2)
+      | inr h ↦
+          elim (find n next (λ bs. f (1 ∷ bs))) [
+            | inl p ↦ inl (1 ∷ p .0, longer n 1 (p .0) (omega arith) (p .1), p .2)
+            | inr k ↦ inr (none-longer n next f h k)
+          ]
     ]
 
 always-steps : (m : Map) → Always-steps m
 always-steps m prior bits =
-    elim (cases-lt prior (m .q))
-    [ inr h ↦ (Err (record { }), λ l b. omega arith)
-    | inl h ↦
-        elim (cases-bits (m .w) bits)
-        [ inl b ↦ (Ok (m .next prior bits), (h, b, refl)) | inr no′ ↦ (Err (record { }), λ l b. no′ b) ]
+    elim (cases-lt prior (m .q)) [
+      | inr h ↦ (Err (record {}), λ l b. omega arith)
+      | inl h ↦
+          elim (cases-bits (m .w) bits)
+          [ inl b ↦ (Ok (m .next prior bits), (h, b, refl)) | inr no′ ↦ (Err (record {}), λ l b. no′ b) ]
     ]
 
 steps-once : (m : Map) → Steps-once m
@@ -101,11 +101,11 @@ steps-once m prior bits (Err e) (Err f) a b = refl
 always-reads : (m : Map) → Always-reads m
 unfolding None
 always-reads m prior next before =
-    elim (cases-readable m prior next before)
-    [ inr h ↦ (before, Err (Call (record { })), (h, refl))
-    | inl r ↦
-        elim (find (m .w) next (m .next prior))
-        [ inl p ↦ (p .0, Ok tt, (r, p .1, p .2)) | inr h ↦ (before, Err NoSuchStep, (r, h, refl)) ]
+    elim (cases-readable m prior next before) [
+      | inr h ↦ (before, Err (Call (record {})), (h, refl))
+      | inl r ↦
+          elim (find (m .w) next (m .next prior))
+          [ inl p ↦ (p .0, Ok tt, (r, p .1, p .2)) | inr h ↦ (before, Err NoSuchStep, (r, h, refl)) ]
     ]
 
 reads-once : (m : Map) → Lawful m → Reads-once m
@@ -135,13 +135,13 @@ reads-steps m l prior next bits before after (Err (Call b)) s e r = absurd (r .0
 
 pub defined : Lawful-is-defined
 defined m l =
-    record
-      { always-steps = always-steps m
-      ; steps-once = steps-once m
-      ; always-reads = always-reads m
-      ; reads-once = reads-once m l
-      ; reads-steps = reads-steps m l
-      }
+    record {
+      always-steps = always-steps m;
+      steps-once = steps-once m;
+      always-reads = always-reads m;
+      reads-once = reads-once m l;
+      reads-steps = reads-steps m l;
+    }
 
 -- stepping and reading back: the step is refused, or the reading answers
 pub back-refused : (m : Map) (prior : ℕ) (bits before : List ℕ) (e : BadCall) → Steps m prior bits (Err e) → Reads-back m prior bits before before (Err (Call e))

@@ -57,20 +57,21 @@ written-more n w i places h l p =
     let k : ℕ = w - 1 - i in let b : ℕ = n / 2 ^ k % 2 in
     let e : take (i + 1) (set places i b) ≡ take i places ++ b ∷ [] = take-more-set places i b (omega arith) in
     let was : number 2 (take i places) ≡ n / 2 ^ (k + 1) =
-      p .high ∙ ap (λ j. n / 2 ^ j) (let j : w - i ≡ k + 1 = omega arith in j) in
+    p .high ∙ ap (λ j. n / 2 ^ j) (let j : w - i ≡ k + 1 = omega arith in j) in
     let now : n / 2 ^ k ≡ n / 2 ^ (w - (i + 1)) = ap (λ j. n / 2 ^ j) (let j : k ≡ w - (i + 1) = omega arith in j) in
     let push = number-push 2 (take i places) b in
     record {
       bits = subst (All Bit) (sym e) (all-push Bit (take i places) b (p .bits) (omega arith));
-      high = ap (number 2) e ∙ (let r : number 2 (take i places ++ b ∷ []) ≡ n / 2 ^ (w - (i + 1)) = omega (arith, halves n k) in r)
+      high = ap (number 2) e ∙ (let r : number 2 (take i places ++ b ∷ []) ≡ n / 2 ^ (w - (i + 1)) = omega (arith, halves n k) in r);
     }
 
 pub written-all : (n w i : ℕ) (places : List ℕ) → i ≡ w → length places ≡ w → Written n w i places → Bits w places × (number 2 places ≡ n)
 written-all n w i places j l p =
     let e : take i places ≡ places = take-all i places (omega arith) in
-    let z : w - i ≡ 0 = omega arith in
-    (record { size = l; bits = subst (All Bit) e (p .bits) },
-     ap (number 2) (sym e) ∙ (p .high ∙ (ap (λ k. n / 2 ^ k) z ∙ div-one n)))
+    let z : w - i ≡ 0 = omega arith in (
+      record { size = l; bits = subst (All Bit) e (p .bits) },
+      ap (number 2) (sym e) ∙ (p .high ∙ (ap (λ k. n / 2 ^ k) z ∙ div-one n)),
+    )
 
 -- one more bit at the end of what is read
 pub number-step : (bs : List ℕ) (i n : ℕ) → i < length bs → n ≡ number 2 (take i bs) → 2 * n + getD bs i 0 ≡ number 2 (take (i + 1) bs)

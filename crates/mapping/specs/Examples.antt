@@ -3,7 +3,7 @@ use mathlib.Core.Path.{_≡_}
 use mathlib.Core.List.{List, [], _∷_}
 use Prim.Native.Nat.{ℕ}
 use Rattle.mapping.specs.Maps.{Map}
-use Rattle.mapping.specs.Phases.{dbpsk, dqpsk, d8psk}
+use Rattle.mapping.specs.Mappings.{dbpsk, dqpsk, d8psk}
 
 -- From phase 4, DBPSK with 0 then 1 gives 8 and 4, and DQPSK with 10 gives 2. From 2, D8PSK with 110 gives 11.
 abbrev pub Examples : Type 0

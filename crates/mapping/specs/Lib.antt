@@ -1,5 +1,6 @@
 pub mod Maps
 pub mod Answers
-pub mod Phases
+pub mod Mappings
+pub mod Tables
 pub mod Laws
 pub mod Examples

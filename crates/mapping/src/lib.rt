@@ -1,14 +1,26 @@
 // Mappings of bits to symbols.
 pub mod fault;
-pub mod phase;
+mod gmsk;
+mod phase;
 
+ghost use mathlib.Core.List.{[], _∷_};
 ghost use mathlib.Core.Path.{_≡_};
+ghost use Rattle.std.specs.declared.result.Result.the-variants.{Ok};
+ghost use Rattle.mapping.specs.Examples.{Examples};
 ghost use Rattle.mapping.specs.Maps.{Map, Lawful};
 ghost use Rattle.mapping.specs.Answers.{Steps, Reads};
 ghost use Rattle.mapping.specs.Laws.{Lawful-is-defined as LawfulIsDefined, Reads-back as ReadsBack};
 use bits::BadCall;
 use fault::ReadFault;
 use fault::ReadFaultFromBadCall;
+pub use gmsk::Gmsk;
+pub use gmsk::GmskMapping;
+pub use phase::D8psk;
+pub use phase::D8pskMapping;
+pub use phase::Dbpsk;
+pub use phase::DbpskMapping;
+pub use phase::Dqpsk;
+pub use phase::DqpskMapping;
 
 // A mapping. Its ghost member is the mapping as a value of the specs.
 pub trait Mapping: Copy {
@@ -39,10 +51,52 @@ pub trait Mapping: Copy {
 }
 
 // Steps with the bits, and reads the step: the places hold the bits again.
-pub fn read_back<M: Mapping>(mapping: &M, prior: u8, bits: &[u8], places: &mut [u8]) -> Result<(), ReadFault>
+pub fn read_back<M: Mapping>(
+    mapping: &M,
+    prior: u8,
+    bits: &[u8],
+    places: &mut [u8],
+) -> Result<(), ReadFault>
     ensures back { λ r. ⌜ ReadsBack (M·Mapping .map) prior (now (bits .entry)) (now (places .entry)) (now (places .exit)) r ⌝ }
     ensures defined { λ _. ⌜ LawfulIsDefined ⌝ }
 {
     let next = mapping.step(prior, bits)?;
     mapping.read(prior, next, places)
+}
+
+// Steps through the worked examples, and answers the symbols that they lead to.
+pub fn worked_examples() -> Result<[u8; 4], BadCall>
+    ensures examples { λ _. ⌜ Examples ⌝ }
+    ensures symbols { λ r. ⌜ r ≡ Ok (8 ∷ 4 ∷ 2 ∷ 11 ∷ []) ⌝ }
+{
+    let first = Dbpsk.step(4, &[0])?;
+    let second = Dbpsk.step(first, &[1])?;
+    let third = Dqpsk.step(4, &[1, 0])?;
+    let fourth = D8psk.step(third, &[1, 1, 0])?;
+    Ok([first, second, third, fourth])
+}
+
+#[cfg(test)]
+mod tests {
+    use super::*;
+    use bits::BadCallDebug;
+    use bits::BadCallPartialEq;
+    use fault::ReadFaultDebug;
+    use fault::ReadFaultPartialEq;
+    use std::test::*;
+
+    // From every phase: where D8PSK steps with 011 (five steps on), and what is read there and one phase on.
+    #[test]
+    fn steps_and_reads_from_every_phase() -> Result<(), Fail> {
+        for prior in 0..16u8 {
+            let next = (prior + 5) % 16;
+            check_eq(D8psk.step(prior, &[0, 1, 1]), Ok(next))?;
+            let mut bits = [7; 3];
+            check_eq(D8psk.read(prior, next, &mut bits), Ok(()))?;
+            check_eq(bits, [0, 1, 1])?;
+            check_eq(D8psk.read(prior, (next + 1) % 16, &mut bits), Err(ReadFault::NoSuchStep))?;
+            check_eq(bits, [0, 1, 1])?;
+        }
+        Ok(())
+    }
 }

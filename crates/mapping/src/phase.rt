@@ -3,18 +3,20 @@ ghost use mathlib.Core.Bool.{true};
 ghost use mathlib.Core.Path.{_≡_};
 ghost use Prim.Native.Nat.{_^_, _<_, _≤_};
 ghost use lib.ListN.{length};
+ghost use Rattle.std.specs.Options.{Cases as BySome};
 ghost use Rattle.std.specs.shelf.Digits.{number};
 ghost use Rattle.std.specs.shelf.Lists.{All};
 ghost use Rattle.bits.specs.Strings.{Bit, Bits};
 ghost use Rattle.mapping.specs.Answers.{Steps, Reads};
-ghost use Rattle.mapping.specs.Phases.{phases, serves, dbpsk, dqpsk, d8psk};
+ghost use Rattle.mapping.specs.Mappings.{phases, dbpsk, dqpsk, d8psk};
+ghost use Rattle.mapping.specs.Tables.{Leads, None-leads as NoneLeads, distinct, serves};
 use super::Mapping;
 use super::fault::ReadFault;
 use bits::BadCall;
 use bits::are_bits;
 
 // the count of phases
-const PHASES: usize = 16;
+const PHASES: u8 = 16;
 
 // π/2-DBPSK.
 #[derive(Clone, Copy)]
@@ -30,7 +32,9 @@ pub struct D8psk;
 
 // The steps, by the number that the bits write.
 const DBPSK_STEPS: [u8; 2] = [4, 12];
+
 const DQPSK_STEPS: [u8; 4] = [2, 6, 14, 10];
+
 const D8PSK_STEPS: [u8; 8] = [1, 3, 7, 5, 15, 13, 9, 11];
 
 // The number that bits write, the first bit the highest.
@@ -59,37 +63,52 @@ fn write_bits(n: usize, bits: &mut [u8])
     }
 }
 
-// Steps by a table of steps for w bits.
+// Steps by a table of the steps for w bits.
 fn phase_step(steps: &[u8], w: usize, prior: u8, bits: &[u8]) -> Result<u8, BadCall>
     requires { ⌜ serves w (now steps) ≡ true ⌝ }
     ensures { λ r. ⌜ Steps (phases w (now (steps .entry))) prior (now (bits .entry)) r ⌝ }
 {
-    if prior >= 16 || bits.len() != w || !are_bits(bits) {
+    if prior >= PHASES || bits.len() != w || !are_bits(bits) {
         return Err(BadCall);
     }
-    Ok((prior + steps[number_of(bits)]) % 16)
+    Ok((prior + steps[number_of(bits)]) % PHASES)
 }
 
-// Reads by a table of steps for w bits.
+// The place in the table of the step that leads from the prior phase to the next.
+fn find_step(steps: &[u8], prior: u8, next: u8) -> Option<usize>
+    requires phase { ⌜ prior < 16 ⌝ }
+    requires steps { ⌜ distinct (now steps) ≡ true ⌝ }
+    ensures { λ r. ⌜ BySome r (NoneLeads (now (steps .entry)) prior next (length (now (steps .entry)))) (λ i. (i < length (now (steps .entry))) × Leads (now (steps .entry)) prior next i) ⌝ }
+{
+    for (i, step) in steps.iter().enumerate() {
+        if (prior + *step) % PHASES == next {
+            return Some(i);
+        }
+    }
+    None
+}
+
+// Reads by a table of the steps for w bits.
 fn phase_read(steps: &[u8], w: usize, prior: u8, next: u8, bits: &mut [u8]) -> Result<(), ReadFault>
     requires { ⌜ serves w (now steps) ≡ true ⌝ }
     ensures { λ r. ⌜ Reads (phases w (now (steps .entry))) prior next (now (bits .entry)) (now (bits .exit)) r ⌝ }
 {
-    if prior >= 16 || next >= 16 || bits.len() != w {
+    if prior >= PHASES || next >= PHASES || bits.len() != w {
         return Err(ReadFault::Call(BadCall));
     }
-    for (i, step) in steps.iter().enumerate() {
-        if (prior + *step) % 16 == next {
+    match find_step(steps, prior, next) {
+        Some(i) => {
             write_bits(i, bits);
-            return Ok(());
+            Ok(())
         }
+        None => Err(ReadFault::NoSuchStep),
     }
-    Err(ReadFault::NoSuchStep)
 }
 
 pub impl Mapping for Dbpsk as DbpskMapping {
     const W: usize = 1;
-    const Q: usize = PHASES;
+
+    const Q: usize = 16;
 
     ghost map = { dbpsk };
 
@@ -107,5 +126,53 @@ pub impl Mapping for Dbpsk as DbpskMapping {
 
     fn read(&self, prior: u8, next: u8, bits: &mut [u8]) -> Result<(), ReadFault> {
         phase_read(&DBPSK_STEPS, Self::W, prior, next, bits)
+    }
+}
+
+pub impl Mapping for Dqpsk as DqpskMapping {
+    const W: usize = 2;
+
+    const Q: usize = 16;
+
+    ghost map = { dqpsk };
+
+    fn width(&self) -> usize {
+        Self::W
+    }
+
+    fn order(&self) -> usize {
+        Self::Q
+    }
+
+    fn step(&self, prior: u8, bits: &[u8]) -> Result<u8, BadCall> {
+        phase_step(&DQPSK_STEPS, Self::W, prior, bits)
+    }
+
+    fn read(&self, prior: u8, next: u8, bits: &mut [u8]) -> Result<(), ReadFault> {
+        phase_read(&DQPSK_STEPS, Self::W, prior, next, bits)
+    }
+}
+
+pub impl Mapping for D8psk as D8pskMapping {
+    const W: usize = 3;
+
+    const Q: usize = 16;
+
+    ghost map = { d8psk };
+
+    fn width(&self) -> usize {
+        Self::W
+    }
+
+    fn order(&self) -> usize {
+        Self::Q
+    }
+
+    fn step(&self, prior: u8, bits: &[u8]) -> Result<u8, BadCall> {
+        phase_step(&D8PSK_STEPS, Self::W, prior, bits)
+    }
+
+    fn read(&self, prior: u8, next: u8, bits: &mut [u8]) -> Result<(), ReadFault> {
+        phase_read(&D8PSK_STEPS, Self::W, prior, next, bits)
     }
 }

@@ -18,7 +18,7 @@ pub add-n : need.add-n
 add-n c =
     let e : c .loop-bit .n ≡ number 2 (take (c .loop-bit .bit-index) (c .args .bits .now)) = c .loop-bit .inv in
     let b : getD (c .args .bits .now) (c .loop-bit .bit-index) 0 < 2 =
-      all-getD Bit (c .args .bits .now) (c .loop-bit .bit-index) 0 (c .loop-bit-test .taken) (c .pre .binary) in
+    all-getD Bit (c .args .bits .now) (c .loop-bit .bit-index) 0 (c .loop-bit-test .taken) (c .pre .binary) in
     omega (arith, front-small (c .args .bits .now) (c .loop-bit .bit-index) (c .pre .binary) (c .pre .short))
 
 pub loop-bit-again : need.loop-bit-again

@@ -14,6 +14,6 @@ loop-i-again c =
 pub returns : need.returns
 returns c =
     let w =
-      written-all (c .args .n) (length (c .args .bits .now)) (c .loop-i .i) (c .loop-i .bits) (omega arith)
-      (c .loop-i .kept .bits) (c .loop-i .inv) in
+    written-all (c .args .n) (length (c .args .bits .now)) (c .loop-i .i) (c .loop-i .bits) (omega arith)
+    (c .loop-i .kept .bits) (c .loop-i .inv) in
     record { binary = w .0; value = w .1 }
