@@ -2,6 +2,8 @@
 pub mod fault;
 mod gmsk;
 mod phase;
+#[cfg(test)]
+mod tests;
 
 ghost use mathlib.Core.List.{[], _∷_};
 ghost use mathlib.Core.Path.{_≡_};
@@ -74,29 +76,4 @@ pub fn worked_examples() -> Result<[u8; 4], BadCall>
     let third = Dqpsk.step(4, &[1, 0])?;
     let fourth = D8psk.step(third, &[1, 1, 0])?;
     Ok([first, second, third, fourth])
-}
-
-#[cfg(test)]
-mod tests {
-    use super::*;
-    use bits::BadCallDebug;
-    use bits::BadCallPartialEq;
-    use fault::ReadFaultDebug;
-    use fault::ReadFaultPartialEq;
-    use std::test::*;
-
-    // From every phase: where D8PSK steps with 011 (five steps on), and what is read there and one phase on.
-    #[test]
-    fn steps_and_reads_from_every_phase() -> Result<(), Fail> {
-        for prior in 0..16u8 {
-            let next = (prior + 5) % 16;
-            check_eq(D8psk.step(prior, &[0, 1, 1]), Ok(next))?;
-            let mut bits = [7; 3];
-            check_eq(D8psk.read(prior, next, &mut bits), Ok(()))?;
-            check_eq(bits, [0, 1, 1])?;
-            check_eq(D8psk.read(prior, (next + 1) % 16, &mut bits), Err(ReadFault::NoSuchStep))?;
-            check_eq(bits, [0, 1, 1])?;
-        }
-        Ok(())
-    }
 }

@@ -29,8 +29,7 @@ pub returns-in-Some : need.returns-in-Some
 returns-in-Some c =
     let l : length (c .args .bits .now) ≡ c .args .w = omega arith in
     let found : Leads (c .args .steps .now) (c .args .prior) (c .args .next) (c .in-Some .i) =
-        c .in-Some .ensures tt .1 in
-    (
+    c .in-Some .ensures tt .1 in (
       record { from = omega arith; to = omega arith; size = l },
       subst (λ w. Bits w (c .write-bits .last .bits)) l (c .write-bits .ensures .binary),
       rw (c .write-bits .ensures .value) found,

@@ -11,6 +11,6 @@ index-steps-number-of c =
 pub add-result : need.add-result
 add-result c =
     let p =
-        picked (c .args .w) (c .number-of .result) (c .args .steps .now) (c .args .bits .now) (c .pre) (omega arith)
-        (c .if-not-are-bits .ensures tt .0 refl) (c .number-of .ensures) in
+    picked (c .args .w) (c .number-of .result) (c .args .steps .now) (c .args .bits .now) (c .pre) (omega arith)
+    (c .if-not-are-bits .ensures tt .0 refl) (c .number-of .ensures) in
     omega (arith, p .1)
