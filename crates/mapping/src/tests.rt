@@ -47,19 +47,34 @@ const DBPSK: [(u8, u8, u8); 4] = [(4, 0, 8), (8, 1, 4), (15, 0, 3), (0, 1, 12)];
 const GMSK: [(u8, u8, u8); 4] = [(0, 0, 0), (0, 1, 1), (1, 0, 0), (1, 1, 1)];
 
 #[test]
-fn steps_and_reads() -> Result<(), Fail> {
+fn d8psk_steps_and_reads() -> Result<(), Fail> {
     for (bits, next) in D8PSK_FROM_2 {
         leads(&D8psk, 2, &bits, next)?;
     }
+    Ok(())
+}
+
+#[test]
+fn dqpsk_steps_and_reads() -> Result<(), Fail> {
     for (bits, next) in DQPSK_FROM_4 {
         leads(&Dqpsk, 4, &bits, next)?;
     }
-    for (prior, bit, next) in DBPSK {
+    Ok(())
+}
+
+#[test]
+fn one_bit_steps_and_reads() -> Result<(), Fail> {
+    for i in 0..4usize {
+        let (prior, bit, next) = DBPSK[i];
         leads(&Dbpsk, prior, &[bit], next)?;
-    }
-    for (prior, bit, next) in GMSK {
+        let (prior, bit, next) = GMSK[i];
         leads(&Gmsk, prior, &[bit], next)?;
     }
+    Ok(())
+}
+
+#[test]
+fn every_phase_is_a_prior() -> Result<(), Fail> {
     for prior in 0..16u8 {
         leads(&D8psk, prior, &[0, 1, 1], (prior + 5) % 16)?;
         fails(&D8psk, prior, (prior + 6) % 16, 3, ReadFault::NoSuchStep)?;
@@ -67,15 +82,21 @@ fn steps_and_reads() -> Result<(), Fail> {
     Ok(())
 }
 
+const BAD_STEPS: [(u8, &[u8]); 6] = [
+    (16, &[0, 0]),
+    (255, &[0, 0]),
+    (3, &[]),
+    (3, &[0]),
+    (3, &[0, 0, 0]),
+    (3, &[0, 2]),
+];
+
 #[test]
 fn refuses_to_step() -> Result<(), Fail> {
-    check_eq(Dqpsk.step(16, &[0, 0]), Err(BadCall))?;
-    check_eq(Dqpsk.step(255, &[0, 0]), Err(BadCall))?;
-    check_eq(Dqpsk.step(3, &[0]), Err(BadCall))?;
-    check_eq(Dqpsk.step(3, &[0, 0, 0]), Err(BadCall))?;
-    check_eq(Dqpsk.step(3, &[0, 2]), Err(BadCall))?;
+    for (prior, bits) in BAD_STEPS {
+        check_eq(Dqpsk.step(prior, bits), Err(BadCall))?;
+    }
     check_eq(Gmsk.step(2, &[0]), Err(BadCall))?;
-    check_eq(Gmsk.step(0, &[]), Err(BadCall))?;
     check_eq(Gmsk.step(0, &[2]), Err(BadCall))
 }
 
