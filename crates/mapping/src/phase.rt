@@ -15,7 +15,7 @@ use super::fault::ReadFault;
 use bits::BadCall;
 use bits::are_bits;
 
-// the count of phases
+// How many phases there are.
 const PHASES: u8 = 16;
 
 // π/2-DBPSK.
@@ -30,11 +30,13 @@ pub struct Dqpsk;
 #[derive(Clone, Copy)]
 pub struct D8psk;
 
-// The steps, by the number that the bits write.
+// The steps of 0 and 1.
 const DBPSK_STEPS: [u8; 2] = [4, 12];
 
+// The steps of 00, 01, 10 and 11.
 const DQPSK_STEPS: [u8; 4] = [2, 6, 14, 10];
 
+// The steps of 000, 001 and on to 111.
 const D8PSK_STEPS: [u8; 8] = [1, 3, 7, 5, 15, 13, 9, 11];
 
 // The number that bits write, the first bit the highest.
@@ -108,7 +110,7 @@ fn phase_read(steps: &[u8], w: usize, prior: u8, next: u8, bits: &mut [u8]) -> R
 pub impl Mapping for Dbpsk as DbpskMapping {
     const W: usize = 1;
 
-    const Q: usize = 16;
+    const Q: usize = PHASES as usize;
 
     ghost map = { dbpsk };
 
@@ -132,7 +134,7 @@ pub impl Mapping for Dbpsk as DbpskMapping {
 pub impl Mapping for Dqpsk as DqpskMapping {
     const W: usize = 2;
 
-    const Q: usize = 16;
+    const Q: usize = PHASES as usize;
 
     ghost map = { dqpsk };
 
@@ -156,7 +158,7 @@ pub impl Mapping for Dqpsk as DqpskMapping {
 pub impl Mapping for D8psk as D8pskMapping {
     const W: usize = 3;
 
-    const Q: usize = 16;
+    const Q: usize = PHASES as usize;
 
     ghost map = { d8psk };
 

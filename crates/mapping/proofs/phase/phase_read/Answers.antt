@@ -2,6 +2,7 @@ use mathlib.Core.Path.{_≡_, refl, ap, sym, _∙_, subst}
 use Prim.Native.Nat.{_^_}
 use native.Mathlib.Omega.{arith}
 use lib.ListN.{length}
+use Rattle.std.specs.shelf.Digits.{number}
 use Rattle.bits.specs.Strings.{Bits}
 use Rattle.mapping.specs.Tables.{Leads}
 use Rattle.mapping.proofs.Tables.{table, none-leads}
@@ -29,8 +30,9 @@ pub returns-in-Some : need.returns-in-Some
 returns-in-Some c =
     let l : length (c .args .bits .now) ≡ c .args .w = omega arith in
     let found : Leads (c .args .steps .now) (c .args .prior) (c .args .next) (c .in-Some .i) =
-    c .in-Some .ensures tt .1 in (
+    c .in-Some .ensures tt .1 in
+    let written : number 2 (c .write-bits .last .bits) ≡ c .in-Some .i = c .write-bits .ensures .value in (
       record { from = omega arith; to = omega arith; size = l },
       subst (λ w. Bits w (c .write-bits .last .bits)) l (c .write-bits .ensures .binary),
-      rw (c .write-bits .ensures .value) found,
+      rw written found,
     )
