@@ -7,15 +7,21 @@ use native.Mathlib.Omega.{arith}
 use lib.ListN.{length}
 use Rattle.std.specs.declared.result.Result.{Result}
 use Rattle.std.specs.declared.result.Result.the-variants.{Ok, Err}
-use Rattle.std.specs.shelf.Lists.{All}
 use Rattle.std.proofs.shelf.Tests.{cases-lt, cases-eq}
-use Rattle.bits.specs.declared.bad_call.BadCall.{BadCall}
-use Rattle.bits.specs.Strings.{Bit, Bits}
+use Rattle.bits.specs.Strings.{Bits}
 use Rattle.mapping.specs.declared.fault.ReadFault.{ReadFault}
 use Rattle.mapping.specs.declared.fault.ReadFault.the-variants.{Call, NoSuchStep}
 use Rattle.mapping.specs.Maps.{Map, Lawful}
 use Rattle.mapping.specs.Answers.{Steps, Reads, Readable}
 use Rattle.mapping.specs.Laws.{Always-steps, Steps-once, Always-reads, Reads-once, Reads-steps, Reads-back, Defined, Lawful-is-defined}
+
+-- one bit more in front, and one less
+longer : (n b : ℕ) (bs : List ℕ) → b < 2 → Bits n bs → Bits (suc n) (b ∷ bs)
+longer n b bs h k = record { size = ap suc (k .size); bits = (h, k .bits) }
+
+shorter : (n b : ℕ) (bs : List ℕ) → Bits (suc n) (b ∷ bs) → Bits n bs
+shorter n b bs k =
+    let e : suc (length bs) ≡ suc n = k .size in record { size = omega arith; bits = k .bits .1 }
 
 -- a call is a good one or not
 cases-bits : (n : ℕ) (xs : List ℕ) → Bits n xs ⊎ (Bits n xs → ⊥)
@@ -27,8 +33,8 @@ cases-bits (suc n) (x ∷ xs) =
       | inr h ↦ inr (λ b. let l : x < 2 = b .bits .0 in omega arith)
       | inl h ↦
           elim (cases-bits n xs) [
-            | inl b ↦ inl (record { size = ap suc (b .size); bits = (h, b .bits) })
-            | inr no′ ↦ inr (λ b. no′ (record { size = let e : suc (length xs) ≡ suc n = b .size in omega arith; bits = b .bits .1 }))
+            | inl b ↦ inl (longer n x xs h b)
+            | inr no′ ↦ inr (λ b. no′ (shorter n x xs b))
           ]
     ]
 
@@ -44,13 +50,6 @@ cases-readable m prior next places =
                 [ inl e ↦ inl (record { from = h; to = k; size = e }) | inr no′ ↦ inr (λ r. no′ (r .size)) ]
           ]
     ]
-
-longer : (n b : ℕ) (bs : List ℕ) → b < 2 → Bits n bs → Bits (suc n) (b ∷ bs)
-longer n b bs h k = record { size = ap suc (k .size); bits = (h, k .bits) }
-
-shorter : (n b : ℕ) (bs : List ℕ) → Bits (suc n) (b ∷ bs) → Bits n bs
-shorter n b bs k =
-    let e : suc (length bs) ≡ suc n = k .size in record { size = omega arith; bits = k .bits .1 }
 
 -- no n bits lead to the symbol
 None : ℕ → ℕ → (List ℕ → ℕ) → Type 0
@@ -143,10 +142,7 @@ defined m l =
       reads-steps = reads-steps m l;
     }
 
--- stepping and reading back: the step is refused, or the reading answers
-pub back-refused : (m : Map) (prior : ℕ) (bits before : List ℕ) (e : BadCall) → Steps m prior bits (Err e) → Reads-back m prior bits before before (Err (Call e))
-back-refused m prior bits before e s = (λ h b l. s h b, refl)
-
+-- a step that was made, and what its reading answers
 pub back-read : (m : Map) → Lawful m → (prior next : ℕ) (bits before after : List ℕ) (r : Result (Unit {0}) ReadFault) → Steps m prior bits (Ok next) → Reads m prior next before after r → Reads-back m prior bits before after r
 back-read m l prior next bits before after (Ok u) s a =
     (s .0, s .1, a .0 .size, reads-steps m l prior next bits before after (Ok u) s (a .0 .size) a .1)

@@ -5,7 +5,7 @@ use Prim.Native.Nat.{ℕ, _<_}
 use native.Mathlib.Omega.{arith}
 use lib.ListN.{length, getD, set}
 use Rattle.bits.specs.Strings.{Bits}
-use Rattle.mapping.specs.Maps.{Map, Lawful}
+use Rattle.mapping.specs.Maps.{Lawful}
 use Rattle.mapping.specs.Mappings.{dbpsk, dqpsk, d8psk, gmsk, dbpsk-steps, dqpsk-steps, d8psk-steps}
 use Rattle.mapping.proofs.Tables.{lawful}
 

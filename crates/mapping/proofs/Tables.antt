@@ -1,8 +1,8 @@
 -- Tables of phase steps: what the test of a table tells, and the law of the mapping that it gives.
-use mathlib.Core.Path.{_≡_, refl, sym, ap, _∙_}
-use mathlib.Core.Bool.{Bool, true, false, not, _&&_}
+use mathlib.Core.Path.{_≡_, refl, sym, ap}
+use mathlib.Core.Bool.{true, not, _&&_}
 use mathlib.Core.List.{List, [], _∷_}
-use Prim.Native.Nat.{ℕ, zero, suc, _+_, _*_, _%_, _^_, _<_, _≤_}
+use Prim.Native.Nat.{ℕ, zero, suc, _+_, _%_, _^_, _<_, _≤_}
 use native.Mathlib.Omega.{arith}
 use lib.Dec.{eqb, leb, ltb}
 use lib.ListN.{length, getD}
@@ -11,7 +11,7 @@ use Rattle.std.specs.shelf.Digits.{number}
 use Rattle.std.proofs.shelf.Elements.{all-getD}
 use Rattle.std.proofs.shelf.Tests.{and-parts, ltb-true, leb-true, eqb-true, eqb-false, not-true}
 use Rattle.bits.specs.Strings.{Bit, Bits}
-use Rattle.mapping.specs.Maps.{Map, Lawful}
+use Rattle.mapping.specs.Maps.{Lawful}
 use Rattle.mapping.specs.Mappings.{phases}
 use Rattle.mapping.specs.Tables.{lacks, distinct, serves, Leads, None-leads}
 use Rattle.mapping.proofs.Numbers.{same-number, number-below}
@@ -69,8 +69,7 @@ table w steps t =
 
 -- the number of w bits picks one of the steps
 pub number-in : (w : ℕ) (steps bs : List ℕ) → Table w steps → Bits w bs → number 2 bs < length steps
-number-in w steps bs t b =
-    omega (arith, number-below w bs b, t .size)
+number-in w steps bs t b = omega (arith, number-below w bs b, t .size)
 
 -- two steps from one phase to one phase are the same
 same-step : (s a b : ℕ) → s < 16 → a < 16 → b < 16 → (s + a) % 16 ≡ (s + b) % 16 → a ≡ b

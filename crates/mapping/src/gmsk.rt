@@ -1,4 +1,3 @@
-ghost use mathlib.Core.Path.{_≡_};
 ghost use Rattle.mapping.specs.Mappings.{gmsk};
 use super::Mapping;
 use super::fault::ReadFault;

@@ -1,6 +1,6 @@
 use mathlib.Core.Path.{refl}
 use Rattle.std.proofs.shelf.Results.{err-from-errBy}
-use Rattle.mapping.proofs.Defined.{defined, back-refused, back-read}
+use Rattle.mapping.proofs.Defined.{defined, back-read}
 use Rattle.mapping.proofs.read_back.Needs as need
 
 pub returns-in-Break-next : need.returns-in-Break-next
