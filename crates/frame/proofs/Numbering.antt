@@ -5,8 +5,9 @@ use Prim.Native.Nat.{ℕ, zero, suc, _+_, _-_, _*_, _/_, _%_, _^_, _<_, _≤_}
 use native.Mathlib.Nat.{pow-succ', mul-left-comm}
 use native.Mathlib.Omega.{arith}
 use lib.ListN.{length, getD, take, drop}
+use lib.Pow.{pow-mono}
 use Rattle.std.specs.shelf.Lists.{All}
-use Rattle.std.proofs.shelf.Lists.{length-append, length-take-le, length-drop, take-more}
+use Rattle.std.proofs.shelf.Lists.{length-append, length-take-le, length-drop, take-more, at-drop-more}
 use Rattle.std.proofs.shelf.Elements.{all-append, all-take, all-drop}
 use Rattle.std.proofs.shelf.Bits.{shr-shr}
 use Rattle.bits.specs.Strings.{Bit, Bits}
@@ -46,6 +47,12 @@ number-below zero (x ∷ bs) b = absurd (omega (arith, b .size))
 number-below (suc w) [] b = absurd (omega (arith, b .size))
 number-below (suc w) (x ∷ bs) b =
     omega (arith, b .bits .0, number-below w bs (record { size = omega (arith, b .size); bits = b .bits .1 }))
+
+-- at most w bits
+pub number-few : (w : ℕ) (bs : List ℕ) → length bs ≤ w → All Bit bs → number-of bs < 2 ^ w
+number-few w bs l h =
+    let m : 2 ^ length bs ≤ 2 ^ w = pow-mono l in
+    omega (arith, number-below (length bs) bs (record { size = refl; bits = h }))
 
 pub low-number : (w : ℕ) (bs : List ℕ) → Bits w bs → low-bits w (number-of bs) ≡ bs
 low-number zero [] b = refl
@@ -88,3 +95,16 @@ bit-of-number (x ∷ bs) (suc k) b =
     let l : x < 2 = b .0 in
     let t : (x + 2 * number-of bs) / 2 ≡ number-of bs = omega arith in
     ap (λ m. m % 2) (half-shr (x + 2 * number-of bs) k ∙ ap (λ m. m / 2 ^ k) t) ∙ bit-of-number bs k (b .1)
+
+-- a loop that takes in the bits from the last to the first
+module _ (bs : List ℕ) (i : ℕ) (low : 0 < i) (high : i ≤ length bs) where
+  pub number-drop-more : 2 * number-of (drop i bs) + getD bs (i - 1) 0 ≡ number-of (drop (i - 1) bs)
+  number-drop-more =
+      let e : number-of (drop (i - 1) bs) ≡ getD bs (i - 1) 0 + 2 * number-of (drop (i - 1 + 1) bs) = at-drop-more number-of bs (i - 1) 0 (omega arith) in
+      let f : number-of (drop (i - 1 + 1) bs) ≡ number-of (drop i bs) = ap (λ m. number-of (drop m bs)) (omega arith) in
+      omega arith
+
+  pub number-drop-below : length bs ≤ 8 → All Bit bs → 2 * number-of (drop i bs) + getD bs (i - 1) 0 < 256
+  number-drop-below l h =
+      let k : length (drop (i - 1) bs) ≤ 8 = simp length-drop (omega arith) in
+      omega (arith, number-drop-more, number-few 8 (drop (i - 1) bs) k (all-drop Bit (i - 1) bs h))

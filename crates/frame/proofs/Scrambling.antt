@@ -4,13 +4,16 @@ use mathlib.Core.List.{List, [], _∷_, _++_, map}
 use Prim.Native.Nat.{ℕ, zero, suc, _+_, _-_, _*_, _/_, _%_, _^_, _<_, _≤_}
 use native.Mathlib.Omega.{arith}
 use lib.Bits.{bitXor, xor-add-and, xor-shr, xor-assoc, xor-self, xor-zero-r, xor-lt}
-use lib.ListN.{length, getD, take, drop}
+use lib.ListN.{length, getD, set, take, drop}
+use lib.Seq.{take-add}
+use borrow.Rule.Slice.PartMut.{putMid}
 use Rattle.std.specs.Iters.{counting}
 use Rattle.std.specs.shelf.Lists.{All}
-use Rattle.std.proofs.shelf.Lists.{append-nil, append-assoc, length-append, take-at, drop-at, take-append-drop, nil-from-length}
+use Rattle.std.proofs.shelf.Lists.{append-nil, append-assoc, length-append, take-at, drop-at, take-append-drop, length-take, length-take-le, length-drop, take-more, take-more-set, nil-from-length}
+use Rattle.std.proofs.shelf.Parts.{take-putMid}
 use Rattle.bits.specs.Strings.{Bit, Bits}
 use Rattle.frame.specs.Numbers.{low-bits, number-of, Byte, byte-bits}
-use Rattle.frame.specs.Scrambler.{keystream, masked, scrambled}
+use Rattle.frame.specs.Scrambler.{keystream, masked, scrambled, mask, Holds}
 use Rattle.frame.specs.Laws.{Scrambling-is-invertible}
 use Rattle.frame.proofs.Numbering.{append-bits, take-bits, drop-bits, resized, low-bits-bits, number-low, number-below, low-number}
 use Rattle.frame.proofs.Sequence.{keystream-bit}
@@ -43,18 +46,18 @@ module _ (x : ℕ → ℕ) where
       (masked-append (n + 1) us bs ∙ ap (λ m. masked x (n + 1) us ++ masked x m bs) (omega arith))
 
   -- w bits of the sequence as a number, from x n on
-  abbrev pub mask : ℕ → ℕ → ℕ
-  mask n w = number-of (map x (counting n w))
+  abbrev sum : ℕ → ℕ → ℕ
+  sum n w = number-of (map x (counting n w))
 
   module _ (bit : (k : ℕ) → x k < 2) where
     -- the bits of a number are masked by a sum of numbers
-    pub masked-low : (n w v : ℕ) → masked x n (low-bits w v) ≡ low-bits w (bitXor v (mask n w))
+    masked-low : (n w v : ℕ) → masked x n (low-bits w v) ≡ low-bits w (bitXor v (sum n w))
     masked-low n zero v = refl
     masked-low n (suc w) v =
         let l : x n < 2 = bit n in
-        let h : (v % 2 + x n) % 2 ≡ bitXor v (mask n (suc w)) % 2 = omega (arith, xor-add-and v (mask n (suc w))) in
-        let k : mask n (suc w) / 2 ≡ mask (n + 1) w = omega arith in
-        let t : bitXor v (mask n (suc w)) / 2 ≡ bitXor (v / 2) (mask (n + 1) w) = xor-shr v (mask n (suc w)) 1 ∙ ap (bitXor (v / 2)) k in
+        let h : (v % 2 + x n) % 2 ≡ bitXor v (sum n (suc w)) % 2 = omega (arith, xor-add-and v (sum n (suc w))) in
+        let k : sum n (suc w) / 2 ≡ sum (n + 1) w = omega arith in
+        let t : bitXor v (sum n (suc w)) / 2 ≡ bitXor (v / 2) (sum (n + 1) w) = xor-shr v (sum n (suc w)) 1 ∙ ap (bitXor (v / 2)) k in
         ap₂ (λ b bs. b ∷ bs) h (masked-low (n + 1) w (v / 2) ∙ ap (low-bits w) (sym t))
 
 -- ---- bytes
@@ -127,8 +130,57 @@ scrambling-is-invertible = (scrambled-bits, scrambled-apart, scrambled-onto)
 
 -- one more byte
 pub scrambled-push : (seed n : ℕ) (xs : List ℕ) (y : ℕ) → 8 * length xs ≡ n
-    → scrambled seed (xs ++ y ∷ []) ≡ scrambled seed xs ++ low-bits 8 (bitXor y (mask (keystream seed) n 8))
+    → scrambled seed (xs ++ y ∷ []) ≡ scrambled seed xs ++ low-bits 8 (bitXor y (mask seed n 8))
+unfolding mask
 scrambled-push seed n xs y e =
     let x = keystream seed in
     ap (masked x 0) (byte-bits-push xs y) ∙ masked-append x 0 (byte-bits xs) (low-bits 8 y)
     ∙ ap (λ us. scrambled seed xs ++ us) (ap (λ m. masked x m (low-bits 8 y)) (omega (arith, byte-bits-bits xs .size)) ∙ masked-low x (keystream-bit seed) n 8 y)
+
+-- ---- the loops
+
+-- a turn of either loop, at byte i and bits a to a + 7
+module _ (seed i : ℕ) (xs bs : List ℕ) (inside : i < length xs) (long : length bs ≡ 8 * length xs) where
+  -- the eight bits, as the code cuts them out
+  abbrev pub part : List ℕ
+  part = take (8 * i + 8 - 8 * i) (drop (8 * i) bs)
+
+  part-is : part ≡ take 8 (drop (8 * i) bs)
+  part-is = let e : 8 * i + 8 - 8 * i ≡ 8 = omega arith in ap (λ n. take n (drop (8 * i) bs)) e
+
+  pub part-bits : All Bit bs → Bits 8 part
+  part-bits h =
+      rw part-is
+      (take-bits 8 (8 * (length xs - i) - 8) (drop (8 * i) bs)
+      (drop-bits (8 * i) (8 + (8 * (length xs - i) - 8)) bs (record { size = omega arith; bits = h })))
+
+  length-part : length part ≡ 8
+  length-part = simp (length-take, length-drop) (omega arith)
+
+  more : 8 * (i + 1) ≡ 8 * i + 8
+  more = omega arith
+
+  pub holds-next : (v : ℕ) → Holds seed (8 * i + 8) v → Holds seed (8 * (i + 1)) v
+  holds-next v h = rw more h
+
+  pub scramble-more : (m : ℕ) (ys : List ℕ) → take (8 * i) bs ≡ scrambled seed (take i xs) → m ≡ mask seed (8 * i) 8
+      → ys ≡ low-bits (length part) (bitXor (getD xs i 0) m)
+      → take (8 * (i + 1)) (putMid (8 * i) (8 * i + 8 - 8 * i) bs ys) ≡ scrambled seed (take (i + 1) xs)
+  scramble-more m ys done e f =
+      let y = getD xs i 0 in
+      let g : ys ≡ low-bits 8 (bitXor y (mask seed (8 * i) 8)) = f ∙ ap₂ (λ w k. low-bits w (bitXor y k)) length-part e in
+      let l : length ys ≡ 8 = ap length g in
+      let s : scrambled seed (take (i + 1) xs) ≡ scrambled seed (take i xs) ++ low-bits 8 (bitXor y (mask seed (8 * i) 8)) =
+      ap (scrambled seed) (take-more xs i 0 inside) ∙ scrambled-push seed (8 * i) (take i xs) y (ap (λ n. 8 * n) (length-take-le i xs (omega arith))) in
+      take-putMid (8 * i) (8 * i + 8 - 8 * i) bs ys (8 * (i + 1)) (omega arith) (omega arith) ∙ ap₂ (λ us vs. us ++ vs) done g ∙ sym s
+
+  pub unscramble-more : (n m : ℕ) → All Bit bs → scrambled seed (take i xs) ≡ take (8 * i) bs → m ≡ mask seed (8 * i) 8
+      → n ≡ number-of part → scrambled seed (take (i + 1) (set xs i (bitXor n m))) ≡ take (8 * (i + 1)) bs
+  unscramble-more n m h done e f =
+      let y = bitXor n m in
+      let u : bitXor y (mask seed (8 * i) 8) ≡ number-of part =
+      ap (bitXor y) (sym e) ∙ xor-assoc n m m ∙ ap (bitXor n) (xor-self m) ∙ xor-zero-r n ∙ f in
+      ap (scrambled seed) (take-more-set xs i y inside)
+      ∙ scrambled-push seed (8 * i) (take i xs) y (ap (λ k. 8 * k) (length-take-le i xs (omega arith)))
+      ∙ ap₂ (λ us vs. us ++ vs) done (ap (low-bits 8) u ∙ low-number 8 part (part-bits h) ∙ part-is)
+      ∙ sym (ap (λ k. take k bs) more ∙ take-add (8 * i) 8 bs)

@@ -1,22 +1,25 @@
 -- The scrambler's sequence: its recurrence, and the register of the code.
-use mathlib.Core.Path.{_≡_, refl, sym, ap, _∙_}
+use mathlib.Core.Path.{_≡_, refl, sym, ap, ap₂, _∙_}
 use mathlib.Core.Bool.{Bool, true, false, cond}
-use mathlib.Core.List.{List, [], _∷_}
+use mathlib.Core.List.{List, [], _∷_, _++_, map}
 use Prim.Native.Nat.{ℕ, zero, suc, _+_, _-_, _*_, _/_, _%_, _^_, _<_, _≤_}
 use native.Mathlib.Omega.{arith}
-use native.Mathlib.Nat.{add-zero, add-suc}
+use native.Mathlib.Nat.{add-zero, add-suc, add-comm}
 use native.Mathlib.Numerals.{add-one}
-use lib.Bits.{bitAnd, bitOr, bitXor, and-mask, or-shifted, xor-add-and}
+use lib.Bits.{bitAnd, bitOr, bitXor, and-mask, or-shifted, or-shifted-r, xor-add-and}
 use lib.Dec.{eqb}
 use lib.ListN.{length, getD, take}
+use Rattle.std.specs.Iters.{counting}
 use Rattle.std.specs.shelf.Lists.{All}
+use Rattle.std.proofs.shelf.Bits.{shl-whole}
+use Rattle.std.proofs.shelf.Counted.{length-map-counting, map-counting-more}
 use Rattle.std.proofs.shelf.Lists.{getD-take, take-all}
 use Rattle.std.proofs.shelf.Elements.{all-take}
 use Rattle.bits.specs.Strings.{Bit, Bits}
 use Rattle.frame.specs.Numbers.{low-bits, number-of}
-use Rattle.frame.specs.Scrambler.{start, next, before, keystream, Holds}
+use Rattle.frame.specs.Scrambler.{start, next, before, keystream, mask, Holds}
 use Rattle.frame.specs.Laws.{Recurs, Keystream-recurs}
-use Rattle.frame.proofs.Numbering.{number-take-more, number-below, number-low, bit-of-number, low-bits-bits, take-bits, cons-bits, resized}
+use Rattle.frame.proofs.Numbering.{number-push, number-take-more, number-below, bit-of-number, low-bits-bits, take-bits, cons-bits, resized}
 
 before-more : (seed n : ℕ) → before seed (n + 1) ≡ keystream seed n ∷ before seed n
 unfolding before keystream
@@ -100,15 +103,19 @@ keystream-recurs = (
 
 -- ---- the register
 
-started-below : (b : Bool) → cond b 0x2cf4 0x3c80 < 2 ^ 14
-started-below true = omega arith
-started-below false = omega arith
-
-pub holds-start : (seed : ℕ) → Holds seed 0 (started seed)
+-- the table of the code
+pub holds-start : (seed : ℕ) → seed < 2 → Holds seed 0 (getD (0x2cf4 ∷ 0x3c80 ∷ []) seed 0)
 unfolding before
-holds-start seed =
-    sym (number-low 14 (started seed) (started-below (eqb seed 0)))
-    ∙ ap number-of (sym (take-all 14 (low-bits 14 (started seed)) (omega arith)) ∙ ap (take 14) (sym (start-is seed)))
+holds-start zero l = refl
+holds-start (suc zero) l = refl
+holds-start (suc (suc seed)) l = absurd (omega arith)
+
+-- what the code takes for the next bit
+abbrev pub tapped : ℕ → ℕ
+tapped v = bitAnd (bitXor (bitXor (bitXor (v / 2) (v / 2048)) (v / 4096)) (v / 8192)) 1
+
+pub tapped-bit : (v : ℕ) → tapped v < 2
+tapped-bit v = omega (arith, and-mask (bitXor (bitXor (bitXor (v / 2) (v / 2048)) (v / 4096)) (v / 8192)) 1)
 
 module _ (seed n v : ℕ) (h : Holds seed n v) where
   window : Bits 14 (take 14 (before seed n))
@@ -122,7 +129,7 @@ module _ (seed n v : ℕ) (h : Holds seed n v) where
       ap (λ m. m / 2 ^ k % 2) h ∙ bit-of-number (take 14 (before seed n)) k (window .bits) ∙ getD-take 14 (before seed n) k 0 l
 
   -- the next bit
-  pub holds-bit : bitAnd (bitXor (bitXor (bitXor (v / 2 ^ 1) (v / 2 ^ 11)) (v / 2 ^ 12)) (v / 2 ^ 13)) 1 ≡ keystream seed n
+  pub holds-bit : tapped v ≡ keystream seed n
   unfolding keystream
   holds-bit =
       omega (
@@ -138,12 +145,47 @@ module _ (seed n v : ℕ) (h : Holds seed n v) where
       )
 
   -- the register after it
-  pub holds-more : Holds seed (n + 1) ((2 * v + keystream seed n) % 2 ^ 14)
+  pub holds-more : Holds seed (n + 1) (bitAnd (bitOr (v * 2 % 2 ^ 16) (tapped v)) 0x3fff)
   holds-more =
       let l : 13 < length (before seed n) = omega (arith, before-bits seed n .size) in
       let e : v ≡ number-of (take 13 (before seed n)) + getD (before seed n) 13 0 * 2 ^ 13 = h ∙ number-take-more (before seed n) 13 l in
       let b : number-of (take 13 (before seed n)) < 2 ^ 13 =
       number-below 13 (take 13 (before seed n)) (take-bits 13 (n + 1) (before seed n) (resized (n + 14) (13 + (n + 1)) (before seed n) (omega arith) (before-bits seed n))) in
       let x : keystream seed n < 2 = keystream-bit seed n in
-      let f : (2 * v + keystream seed n) % 2 ^ 14 ≡ keystream seed n + 2 * number-of (take 13 (before seed n)) = omega arith in
-      f ∙ ap (λ xs. number-of (take 14 xs)) (sym (before-more seed n))
+      let m : v * 2 % 2 ^ 16 ≡ v * 2 ^ 1 = omega (arith, holds-below) in
+      let o : bitOr (v * 2 % 2 ^ 16) (tapped v) ≡ v * 2 ^ 1 + keystream seed n = ap₂ bitOr m holds-bit ∙ or-shifted v 1 (keystream seed n) x in
+      let f : (v * 2 ^ 1 + keystream seed n) % 2 ^ 14 ≡ keystream seed n + 2 * number-of (take 13 (before seed n)) = omega arith in
+      ap (λ q. bitAnd q 0x3fff) o ∙ and-mask (v * 2 ^ 1 + keystream seed n) 14 ∙ f ∙ ap (λ xs. number-of (take 14 xs)) (sym (before-more seed n))
+
+-- ---- eight bits of the sequence as a byte
+
+pub mask-none : (seed n : ℕ) → 0 ≡ mask seed n 0
+unfolding mask
+mask-none seed n = refl
+
+mask-bits : (seed n w : ℕ) → Bits w (map (keystream seed) (counting n w))
+mask-bits seed n zero = record { size = refl; bits = tt }
+mask-bits seed n (suc w) =
+    cons-bits w (keystream seed n) (map (keystream seed) (counting (n + 1) w)) (keystream-bit seed n) (mask-bits seed (n + 1) w)
+
+pub mask-below : (seed n w : ℕ) → mask seed n w < 2 ^ w
+unfolding mask
+mask-below seed n w = number-below w (map (keystream seed) (counting n w)) (mask-bits seed n w)
+
+pub mask-more : (seed n w : ℕ) → mask seed n (w + 1) ≡ keystream seed (n + w) * 2 ^ w + mask seed n w
+unfolding mask
+mask-more seed n w =
+    let x = keystream seed in
+    let p : number-of (map x (counting n w) ++ x (n + w) ∷ []) ≡ mask seed n w + x (n + w) * 2 ^ w =
+    number-push (map x (counting n w)) (x (n + w)) ∙ ap (λ m. mask seed n w + x (n + w) * 2 ^ m) (length-map-counting x n w) in
+    ap number-of (map-counting-more x n w (n + w) refl) ∙ p ∙ add-comm (mask seed n w) (x (n + w) * 2 ^ w)
+
+-- one more bit, as the code puts it in
+pub mask-step : (seed n k byte bit : ℕ) → k < 8 → byte ≡ mask seed n k → bit ≡ keystream seed (n + k)
+    → bitOr byte (bit * 2 ^ k % 2 ^ 8) ≡ mask seed n (k + 1)
+mask-step seed n k byte bit l e f =
+    let x = keystream seed (n + k) in
+    ap₂ (λ a b. bitOr a (b * 2 ^ k % 2 ^ 8)) e f
+    ∙ ap (bitOr (mask seed n k)) (shl-whole x 1 k 8 (keystream-bit seed (n + k)) (omega arith))
+    ∙ or-shifted-r x k (mask seed n k) (mask-below seed n k)
+    ∙ sym (mask-more seed n k)

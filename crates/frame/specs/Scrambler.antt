@@ -1,10 +1,11 @@
 -- The scrambler: a sequence x of bits, which a seed fixes, is added to the bits of the PSDU modulo 2.
 use mathlib.Core.Path.{_≡_}
 use mathlib.Core.Bool.{cond}
-use mathlib.Core.List.{List, [], _∷_}
+use mathlib.Core.List.{List, [], _∷_, map}
 use Prim.Native.Nat.{ℕ, zero, suc, _+_, _%_}
 use lib.Dec.{eqb}
 use lib.ListN.{getD, take}
+use Rattle.std.specs.Iters.{counting}
 use Rattle.frame.specs.Numbers.{number-of, byte-bits}
 
 -- x[−1] to x[−14], in this order
@@ -39,3 +40,7 @@ scrambled seed bytes = masked (keystream seed) 0 (byte-bits bytes)
 -- a register holds the fourteen values before x[n], x[n−1] in its lowest bit
 abbrev pub Holds : ℕ → ℕ → ℕ → Type 0
 Holds seed n register = register ≡ number-of (take 14 (before seed n))
+
+-- x[n] to x[n+w−1] as a number, x[n] its lowest bit
+unfoldable pub mask : ℕ → ℕ → ℕ → ℕ
+mask seed n w = number-of (map (keystream seed) (counting n w))
