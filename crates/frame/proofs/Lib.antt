@@ -1,3 +1,5 @@
 pub mod Numbering
 pub mod Sequence
 pub mod Scrambling
+pub mod Reading
+pub mod Written

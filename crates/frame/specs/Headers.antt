@@ -62,7 +62,7 @@ Clear f bits = All (λ p. getD bits p 0 ≡ 0) (f .reserved)
 pub record LowestSet (f : Form) (bits : List ℕ) (p : ℕ) : Type 0 where
   pub reserved : Has (f .reserved) p
   pub set : getD bits p 0 ≡ 1
-  pub lowest : (q : ℕ) → Has (f .reserved) q → getD bits q 0 ≡ 1 → p ≤ q
+  pub lowest : All (λ q. getD bits q 0 ≡ 1 → p ≤ q) (f .reserved)
 
 -- the plan carries rate r: there are rates 0 to 3, and the plan's entry for r is true
 abbrev pub Carried : List Bool → ℕ → Type 0
