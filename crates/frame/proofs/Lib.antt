@@ -3,3 +3,4 @@ pub mod Sequence
 pub mod Scrambling
 pub mod Reading
 pub mod Written
+pub mod Checking

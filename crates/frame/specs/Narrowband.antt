@@ -21,10 +21,11 @@ unfoldable pub hcs : List ℕ → List ℕ
 hcs bits = reverse (low-bits 4 (15 - register bits))
 
 -- RATE in bits 0 to 2, LENGTH (the bytes past nine) in bits 4 to 11, the burst mark in bit 13 and the seed in bit 14
-abbrev pub said : Fields → List ℕ
+unfoldable pub said : Fields → List ℕ
 said x = low-bits 3 (x .rate) ++ 0 ∷ low-bits 8 (x .bytes - 9) ++ 0 ∷ x .burst ∷ x .seed ∷ []
 
-abbrev pub fields : List ℕ → Fields
+-- what stands in those places
+unfoldable pub fields : List ℕ → Fields
 fields bits =
     record {
       rate = number-of (take 3 bits);

@@ -1,6 +1,8 @@
 // The header of a frame and the scrambler of its PSDU.
 pub mod fault;
+pub mod form;
 pub mod header;
+pub mod narrowband;
 mod numbers;
 pub mod scrambler;
 
