@@ -14,8 +14,8 @@ use Rattle.std.proofs.shelf.Elements.{all-has, all-weaker}
 use Rattle.bits.specs.Strings.{Bit, Bits}
 use Rattle.frame.specs.declared.fault.FormFault.{FormFault}
 use Rattle.frame.specs.declared.fault.FormFault.the-variants.{Check, Reserved, Rate}
-use Rattle.frame.specs.Headers.{Fields, Form, count, Checked, Clear, LowestSet, Carried, Read}
-use Rattle.frame.specs.Laws.{ReadOnce, Reading-is-single}
+use Rattle.frame.specs.Headers.{Fields, Form, count, header, InRange, Checked, Clear, LowestSet, Carried, Read, Lawful}
+use Rattle.frame.specs.Laws.{ReadOnce, Reading-is-single, Headers-are-apart}
 
 abbrev pub Either : Type 0 → Type 0
 Either A = A ⊎ (A → ⊥)
@@ -116,7 +116,23 @@ module _ (f : Form) (legal : List Bool) (bits : List ℕ) where
       go (inl a) (inl b) (inr n) = (Err (Rate (f .fields bits .rate)), (a, b, n, refl))
       go (inl a) (inl b) (inl c) = (Ok (f .fields bits), (a, b, c, refl))
 
-pub reading-is-single : Reading-is-single
+pub reading-is-single : (f : Form) → Reading-is-single f
 reading-is-single f legal bits b =
     let r = read-some f legal bits (b .bits) in
     record { answer = r .0; read = r .1; only = λ s h. read-one f legal bits s (r .0) h (r .1) }
+
+-- each of the four rates
+all-carried : (r : ℕ) → r ≤ 3 → Carried (true ∷ true ∷ true ∷ true ∷ []) r
+all-carried zero l = (l, refl)
+all-carried (suc zero) l = (l, refl)
+all-carried (suc (suc zero)) l = (l, refl)
+all-carried (suc (suc (suc zero))) l = (l, refl)
+all-carried (suc (suc (suc (suc r)))) l = absurd (omega arith)
+
+pub headers-are-apart : (f : Form) → Lawful f → Headers-are-apart f
+headers-are-apart f L x y a b e =
+    let legal = true ∷ true ∷ true ∷ true ∷ [] in
+    let h : Read f legal (header f x) (Ok x) = L .read-back legal x a (all-carried (x .rate) (a .rate)) in
+    let k : Read f legal (header f x) (Ok y) = rw e (L .read-back legal y b (all-carried (y .rate) (b .rate))) in
+    let same : _≡_ {A = Result Fields FormFault} (Ok x) (Ok y) = read-one f legal (header f x) (Ok x) (Ok y) h k in
+    cc

@@ -35,7 +35,8 @@ Reads f legal bits (Err (Call e)) = Bits (count f) bits → ⊥
 -- Scrambling: with a seed of 0 or 1 and eight places for each byte, the places become the scrambled bits. Any other call
 -- is refused and writes nothing.
 abbrev pub Scrambles : ℕ → List ℕ → List ℕ → List ℕ → Result (Unit {0}) BadCall → Type 0
-Scrambles seed psdu before after (Ok u) = (seed < 2) × (length before ≡ 8 * length psdu) × (after ≡ scrambled seed psdu)
+Scrambles seed psdu before after (Ok u) =
+    (seed < 2) × All Byte psdu × (length before ≡ 8 * length psdu) × (after ≡ scrambled seed psdu)
 Scrambles seed psdu before after (Err e) = (seed < 2 → length before ≡ 8 * length psdu → ⊥) × (after ≡ before)
 
 -- Unscrambling: with a seed of 0 or 1 and eight bits for each place, the places become the bytes of which these are the

@@ -9,17 +9,21 @@ use Rattle.std.specs.declared.result.Result.{Result}
 use Rattle.bits.specs.Strings.{Bits}
 use Rattle.frame.specs.declared.fault.FormFault.{FormFault}
 use Rattle.frame.specs.Numbers.{Byte}
-use Rattle.frame.specs.Headers.{Fields, Form, count, Read}
+use Rattle.frame.specs.Headers.{Fields, Form, count, header, InRange, Read}
 use Rattle.frame.specs.Scrambler.{start, keystream, scrambled}
 
--- bits of a header are read as one thing, whatever the form and the rates
+-- the bits of a header are read as one thing
 pub record ReadOnce (f : Form) (legal : List Bool) (bits : List ℕ) : Type 0 where
   pub answer : Result Fields FormFault
   pub read : Read f legal bits answer
   pub only : (r : Result Fields FormFault) → Read f legal bits r → r ≡ answer
 
-abbrev pub Reading-is-single : Type 0
-Reading-is-single = (f : Form) (legal : List Bool) (bits : List ℕ) → Bits (count f) bits → ReadOnce f legal bits
+abbrev pub Reading-is-single : Form → Type 0
+Reading-is-single f = (legal : List Bool) (bits : List ℕ) → Bits (count f) bits → ReadOnce f legal bits
+
+-- different fields have different headers
+abbrev pub Headers-are-apart : Form → Type 0
+Headers-are-apart f = (x y : Fields) → InRange f x → InRange f y → header f x ≡ header f y → x ≡ y
 
 -- x from x[−14] on: s k is x[k − 14]
 pub record Recurs (seed : ℕ) (s : ℕ → ℕ) : Type 0 where

@@ -134,3 +134,140 @@ pub impl HeaderForm for NarrowbandHeader as NarrowbandForm {
         Ok(Header { rate, bytes: 9 + length as usize, burst: rest[10], seed: rest[11] })
     }
 }
+
+#[cfg(test)]
+mod tests {
+    use super::*;
+    use crate::fault::FormFaultDebug;
+    use crate::fault::FormFaultPartialEq;
+    use crate::fault::ReadHeaderFaultDebug;
+    use crate::fault::ReadHeaderFaultPartialEq;
+    use crate::header::HeaderDebug;
+    use crate::header::HeaderPartialEq;
+    use bits::BadCallDebug;
+    use bits::BadCallPartialEq;
+    use std::test::*;
+
+    const ALL: [bool; 4] = [true; 4];
+    // band 1 reserves rate 3
+    const NO_3: [bool; 4] = [true, true, true, false];
+
+    #[derive(Clone, Copy)]
+    struct Known {
+        header: Header,
+        bits: [u8; 19],
+    }
+
+    const KNOWN: [Known; 5] = [
+        Known { header: Header { rate: 0, bytes: 9, burst: 0, seed: 0 }, bits: [0; 19] },
+        Known { header: Header { rate: 0, bytes: 9, burst: 0, seed: 1 }, bits: [0, 0, 0, 0, 0, 0, 0, 0, 0, 0, 0, 0, 0, 0, 1, 0, 0, 1, 1] },
+        Known { header: Header { rate: 1, bytes: 10, burst: 0, seed: 0 }, bits: [1, 0, 0, 0, 1, 0, 0, 0, 0, 0, 0, 0, 0, 0, 0, 0, 0, 0, 1] },
+        Known { header: Header { rate: 2, bytes: 13, burst: 1, seed: 1 }, bits: [0, 1, 0, 0, 0, 0, 1, 0, 0, 0, 0, 0, 0, 1, 1, 1, 1, 1, 0] },
+        Known { header: Header { rate: 3, bytes: 264, burst: 1, seed: 0 }, bits: [1, 1, 0, 0, 1, 1, 1, 1, 1, 1, 1, 1, 0, 1, 0, 1, 1, 0, 0] },
+    ];
+
+    #[test]
+    fn writes_and_reads_known_headers() -> Result<(), Fail> {
+        for known in KNOWN {
+            let mut out = [7; 19];
+            NarrowbandHeader.write(&known.header, &mut out)?;
+            check_eq(out, known.bits)?;
+            check_eq(NarrowbandHeader.read(&known.bits, &ALL)?, known.header)?;
+        }
+        check_eq(NarrowbandHeader.bits_count(), 19)
+    }
+
+    #[test]
+    fn reads_what_it_wrote() -> Result<(), Fail> {
+        for rate in 0..4u8 {
+            for bytes in [9, 10, 100, 137, 263, 264] {
+                for marks in 0..4u8 {
+                    let header = Header { rate, bytes, burst: marks / 2, seed: marks % 2 };
+                    let mut out = [0; 19];
+                    NarrowbandHeader.write(&header, &mut out)?;
+                    check_eq(NarrowbandHeader.read(&out, &ALL)?, header)?;
+                }
+            }
+        }
+        Ok(())
+    }
+
+    #[derive(Clone, Copy)]
+    struct Faulty {
+        bits: [u8; 19],
+        legal: [bool; 4],
+        fault: FormFault,
+    }
+
+    const FAULTY: [Faulty; 9] = [
+        // the check comes first, whatever else is wrong
+        Faulty { bits: [0, 0, 0, 0, 0, 0, 0, 0, 0, 0, 0, 0, 0, 0, 0, 0, 0, 0, 1], legal: ALL, fault: FormFault::Check },
+        Faulty { bits: [0, 0, 0, 1, 0, 0, 0, 0, 0, 0, 0, 0, 0, 0, 0, 0, 0, 0, 0], legal: ALL, fault: FormFault::Check },
+        Faulty { bits: [0, 0, 1, 0, 0, 0, 0, 0, 0, 0, 0, 0, 0, 0, 0, 0, 0, 0, 0], legal: ALL, fault: FormFault::Check },
+        // then the reserved bits, the lowest told
+        Faulty { bits: [0, 0, 0, 1, 0, 0, 0, 0, 0, 0, 0, 0, 0, 0, 0, 0, 0, 0, 1], legal: ALL, fault: FormFault::Reserved(3) },
+        Faulty { bits: [0, 0, 0, 0, 0, 0, 0, 0, 0, 0, 0, 0, 1, 0, 0, 1, 1, 0, 0], legal: ALL, fault: FormFault::Reserved(12) },
+        Faulty { bits: [0, 0, 0, 1, 0, 0, 0, 0, 0, 0, 0, 0, 1, 0, 0, 1, 1, 0, 1], legal: ALL, fault: FormFault::Reserved(3) },
+        Faulty { bits: [1, 0, 1, 0, 0, 0, 0, 0, 0, 0, 0, 0, 1, 0, 0, 0, 1, 1, 0], legal: ALL, fault: FormFault::Reserved(12) },
+        // then the rate
+        Faulty { bits: [0, 0, 1, 0, 0, 0, 0, 0, 0, 0, 0, 0, 0, 0, 0, 0, 0, 1, 0], legal: ALL, fault: FormFault::Rate(4) },
+        Faulty { bits: [1, 1, 0, 0, 0, 0, 0, 0, 0, 0, 0, 0, 0, 0, 0, 1, 1, 0, 0], legal: NO_3, fault: FormFault::Rate(3) },
+    ];
+
+    #[test]
+    fn tells_the_first_fault() -> Result<(), Fail> {
+        for case in FAULTY {
+            check_eq(NarrowbandHeader.read(&case.bits, &case.legal), Err(ReadHeaderFault::Form(case.fault)))?;
+        }
+        Ok(())
+    }
+
+    #[test]
+    fn refuses_to_write() -> Result<(), Fail> {
+        let good = Header { rate: 0, bytes: 9, burst: 0, seed: 0 };
+        let bad = [
+            Header { rate: 4, ..good },
+            Header { bytes: 8, ..good },
+            Header { bytes: 265, ..good },
+            Header { burst: 2, ..good },
+            Header { seed: 2, ..good },
+        ];
+        for header in bad {
+            let mut out = [7; 19];
+            check_eq(NarrowbandHeader.write(&header, &mut out), Err(BadCall))?;
+            check_eq(out, [7; 19])?;
+        }
+        let mut out = [7; 20];
+        check_eq(NarrowbandHeader.write(&good, &mut out), Err(BadCall))?;
+        check_eq(NarrowbandHeader.write(&good, &mut out[0..18]), Err(BadCall))?;
+        check_eq(out, [7; 20])
+    }
+
+    #[test]
+    fn refuses_to_read() -> Result<(), Fail> {
+        let refused = Err(ReadHeaderFault::Call(BadCall));
+        for count in [0, 2, 3, 18, 20] {
+            check_eq(NarrowbandHeader.read(&[0; 20][0..count], &ALL), refused)?;
+        }
+        for place in 0..19 {
+            let mut bits = [0; 19];
+            bits[place] = 2;
+            check_eq(NarrowbandHeader.read(&bits, &ALL), refused)?;
+        }
+        Ok(())
+    }
+
+    #[test]
+    fn numbers_its_faults() -> Result<(), Fail> {
+        let told = [
+            (ReadHeaderFault::Call(BadCall), 16, 1, 0),
+            (ReadHeaderFault::Form(FormFault::Check), 12, 2, 0),
+            (ReadHeaderFault::Form(FormFault::Reserved(12)), 13, 2, 12),
+            (ReadHeaderFault::Form(FormFault::Rate(7)), 14, 2, 7),
+        ];
+        for (fault, number, layer, place) in told {
+            check_eq((fault.number(), fault.layer(), fault.place()), (number, layer, place))?;
+        }
+        Ok(())
+    }
+}

@@ -75,3 +75,55 @@ pub fn unscramble(seed: u8, bits: &[u8], psdu: &mut [u8]) -> Result<(), BadCall>
     }
     Ok(())
 }
+
+#[cfg(test)]
+mod tests {
+    use super::*;
+    use bits::BadCallDebug;
+    use bits::BadCallPartialEq;
+    use std::test::*;
+
+    #[derive(Clone, Copy)]
+    struct Case {
+        seed: u8,
+        psdu: [u8; 2],
+        bits: [u8; 16],
+    }
+
+    const CASES: [Case; 4] = [
+        Case { seed: 0, psdu: [0, 0], bits: [0, 0, 0, 1, 1, 1, 0, 0, 0, 0, 1, 1, 1, 1, 1, 0] },
+        Case { seed: 1, psdu: [0, 0], bits: [1, 1, 1, 0, 0, 1, 1, 1, 1, 1, 1, 1, 0, 1, 1, 1] },
+        Case { seed: 0, psdu: [1, 128], bits: [1, 0, 0, 1, 1, 1, 0, 0, 0, 0, 1, 1, 1, 1, 1, 1] },
+        Case { seed: 1, psdu: [255, 53], bits: [0, 0, 0, 1, 1, 0, 0, 0, 0, 1, 0, 1, 1, 0, 1, 1] },
+    ];
+
+    #[test]
+    fn scrambles_and_unscrambles() -> Result<(), Fail> {
+        for case in CASES {
+            let mut bits = [7; 16];
+            scramble(case.seed, &case.psdu, &mut bits)?;
+            check_eq(bits, case.bits)?;
+            let mut psdu = [7; 2];
+            unscramble(case.seed, &bits, &mut psdu)?;
+            check_eq(psdu, case.psdu)?;
+        }
+        scramble(1, &[], &mut [])?;
+        unscramble(0, &[], &mut [])?;
+        Ok(())
+    }
+
+    #[test]
+    fn refuses_bad_calls() -> Result<(), Fail> {
+        let mut bits = [7; 17];
+        check_eq(scramble(2, &[1, 2], &mut bits[0..16]), Err(BadCall))?;
+        check_eq(scramble(0, &[1, 2], &mut bits[0..15]), Err(BadCall))?;
+        check_eq(scramble(0, &[1, 2], &mut bits), Err(BadCall))?;
+        check_eq(bits, [7; 17])?;
+        let mut psdu = [7; 2];
+        check_eq(unscramble(2, &[0; 16], &mut psdu), Err(BadCall))?;
+        check_eq(unscramble(0, &[0; 15], &mut psdu), Err(BadCall))?;
+        check_eq(unscramble(0, &[0; 17], &mut psdu), Err(BadCall))?;
+        check_eq(unscramble(0, &[0, 0, 0, 0, 0, 0, 0, 0, 0, 0, 0, 0, 0, 0, 0, 2], &mut psdu), Err(BadCall))?;
+        check_eq(psdu, [7; 2])
+    }
+}

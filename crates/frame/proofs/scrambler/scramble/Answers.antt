@@ -2,7 +2,9 @@ use mathlib.Core.Path.{_≡_, sym, ap, _∙_}
 use Prim.Native.Nat.{ℕ, _*_}
 use native.Mathlib.Omega.{arith}
 use lib.ListN.{length, take}
+use Rattle.std.proofs.shelf.Elements.{all-from-getD}
 use Rattle.std.proofs.shelf.Lists.{take-all}
+use Rattle.frame.specs.Numbers.{Byte}
 use Rattle.frame.specs.Scrambler.{scrambled}
 use Rattle.frame.proofs.Scrambling.{holds-next, scramble-more}
 use Rattle.frame.proofs.scrambler.scramble.Needs as need
@@ -26,6 +28,7 @@ returns c =
     let e : c .loop-i .i ≡ length xs = omega arith in
     let all : length bs ≡ 8 * c .loop-i .i = omega arith in (
       omega arith,
+      all-from-getD Byte xs 0 (λ k l. c .typed .psdu k .fits),
       omega arith,
       sym (take-all (8 * c .loop-i .i) bs (omega arith)) ∙ c .loop-i .inv .1
       ∙ ap (scrambled (c .args .seed)) (take-all (c .loop-i .i) xs (omega arith)),
