@@ -33,7 +33,6 @@ hcs-bits body =
     record { size = refl; bits = (b .1 .1 .1 .0, (b .1 .1 .0, (b .1 .0, (b .0, tt)))) }
 
 said-bits : (x : Fields) → x .burst ≤ 1 → x .seed < 2 → Bits 15 (said x)
-
 unfolding said
 said-bits x a b =
     append-bits 3 12 (low-bits 3 (x .rate)) _ (low-bits-bits 3 (x .rate))
@@ -51,7 +50,6 @@ sized : (x : Fields) → InRange narrowband x → Bits 19 (header narrowband x)
 sized x r = append-bits 15 4 (said x) (hcs (said x)) (said-bits x (r .burst) (r .seed)) (hcs-bits (said x))
 
 read-back : (legal : List Bool) (x : Fields) → InRange narrowband x → Carried legal (x .rate) → Read narrowband legal (header narrowband x) (Ok x)
-
 unfolding said fields
 read-back legal x r c =
     let t : take 15 (header narrowband x) ≡ said x = take-at (said x) (hcs (said x)) 15 refl in
@@ -70,7 +68,6 @@ module _ (legal : List Bool) (b : List ℕ) (valid : Bits 19 b) where
   length-bits = take-bits 8 7 (drop 4 b) (drop-bits 4 15 b valid)
 
   in-range : Carried legal (fields b .rate) → InRange narrowband (fields b)
-
   unfolding fields
   in-range c =
       let m = number-below 8 (take 8 (drop 4 b)) length-bits in
@@ -78,7 +75,6 @@ module _ (legal : List Bool) (b : List ℕ) (valid : Bits 19 b) where
       record { rate = c .0; low = omega arith; high = omega arith; burst = omega arith; seed = bit-at b 14 (valid .bits) }
 
   said-again : getD b 3 0 ≡ 0 → getD b 12 0 ≡ 0 → said (fields b) ≡ take 15 b
-
   unfolding said fields
   said-again three twelve =
       let k : 9 + number-of (take 8 (drop 4 b)) - 9 ≡ number-of (take 8 (drop 4 b)) = omega arith in

@@ -93,18 +93,15 @@ pub fn header_laws<F: HeaderForm>(_form: &F)
     ensures lawful { λ _. ⌜ Lawful (F·HeaderForm .form) ⌝ }
     ensures single { λ _. ⌜ Reading-is-single (F·HeaderForm .form) ⌝ }
     ensures apart { λ _. ⌜ Headers-are-apart (F·HeaderForm .form) ⌝ }
-{
-}
+{}
 
 // The keystream is the sequence of its recurrence, and scrambling is invertible.
 pub fn scrambler_laws()
     ensures recurs { λ _. ⌜ Keystream-recurs ⌝ }
     ensures invertible { λ _. ⌜ Scrambling-is-invertible ⌝ }
-{
-}
+{}
 
 // The worked examples hold.
 pub fn worked_examples()
     ensures { λ _. ⌜ Examples ⌝ }
-{
-}
+{}

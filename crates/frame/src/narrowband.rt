@@ -60,7 +60,11 @@ fn check_sequence(bits: &[u8]) -> [u8; 4]
 fn in_range(header: &Header) -> bool
     ensures { λ r. ⌜ Decides r (InRange narrowband (fields-of (now (header .entry)))) ⌝ }
 {
-    header.rate <= 3 && header.bytes >= 9 && header.bytes <= 264 && header.burst <= 1 && header.seed <= 1
+    header.rate <= 3
+        && header.bytes >= 9
+        && header.bytes <= 264
+        && header.burst <= 1
+        && header.seed <= 1
 }
 
 fn look_at_check(bits: &[u8]) -> Result<(), FormFault>
@@ -131,7 +135,12 @@ pub impl HeaderForm for NarrowbandHeader as NarrowbandForm {
         let rate = *rate0 + 2 * *rate1 + 4 * *rate2;
         look_at_rate(rate, legal)?;
         let length = number_of(&rest[1..9]);
-        Ok(Header { rate, bytes: 9 + length as usize, burst: rest[10], seed: rest[11] })
+        Ok(Header {
+            rate,
+            bytes: 9 + length as usize,
+            burst: rest[10],
+            seed: rest[11],
+        })
     }
 }
 
@@ -144,35 +153,69 @@ mod tests {
     use crate::fault::ReadHeaderFaultPartialEq;
     use crate::header::HeaderDebug;
     use crate::header::HeaderPartialEq;
+    use crate::numbers::unpacked;
     use bits::BadCallDebug;
     use bits::BadCallPartialEq;
     use std::test::*;
 
     const ALL: [bool; 4] = [true; 4];
-    // band 1 reserves rate 3
+
     const NO_3: [bool; 4] = [true, true, true, false];
-
-    #[derive(Clone, Copy)]
-    struct Known {
-        header: Header,
-        bits: [u8; 19],
-    }
-
-    const KNOWN: [Known; 5] = [
-        Known { header: Header { rate: 0, bytes: 9, burst: 0, seed: 0 }, bits: [0; 19] },
-        Known { header: Header { rate: 0, bytes: 9, burst: 0, seed: 1 }, bits: [0, 0, 0, 0, 0, 0, 0, 0, 0, 0, 0, 0, 0, 0, 1, 0, 0, 1, 1] },
-        Known { header: Header { rate: 1, bytes: 10, burst: 0, seed: 0 }, bits: [1, 0, 0, 0, 1, 0, 0, 0, 0, 0, 0, 0, 0, 0, 0, 0, 0, 0, 1] },
-        Known { header: Header { rate: 2, bytes: 13, burst: 1, seed: 1 }, bits: [0, 1, 0, 0, 0, 0, 1, 0, 0, 0, 0, 0, 0, 1, 1, 1, 1, 1, 0] },
-        Known { header: Header { rate: 3, bytes: 264, burst: 1, seed: 0 }, bits: [1, 1, 0, 0, 1, 1, 1, 1, 1, 1, 1, 1, 0, 1, 0, 1, 1, 0, 0] },
-    ];
 
     #[test]
     fn writes_and_reads_known_headers() -> Result<(), Fail> {
-        for known in KNOWN {
+        let known = [
+            (
+                Header {
+                    rate: 0,
+                    bytes: 9,
+                    burst: 0,
+                    seed: 0,
+                },
+                0b000_0_00000000_0_0_0_0000,
+            ),
+            (
+                Header {
+                    rate: 0,
+                    bytes: 9,
+                    burst: 0,
+                    seed: 1,
+                },
+                0b000_0_00000000_0_0_1_0011,
+            ),
+            (
+                Header {
+                    rate: 1,
+                    bytes: 10,
+                    burst: 0,
+                    seed: 0,
+                },
+                0b100_0_10000000_0_0_0_0001,
+            ),
+            (
+                Header {
+                    rate: 2,
+                    bytes: 13,
+                    burst: 1,
+                    seed: 1,
+                },
+                0b010_0_00100000_0_1_1_1110,
+            ),
+            (
+                Header {
+                    rate: 3,
+                    bytes: 264,
+                    burst: 1,
+                    seed: 0,
+                },
+                0b110_0_11111111_0_1_0_1100,
+            ),
+        ];
+        for (header, numeral) in known {
             let mut out = [7; 19];
-            NarrowbandHeader.write(&known.header, &mut out)?;
-            check_eq(out, known.bits)?;
-            check_eq(NarrowbandHeader.read(&known.bits, &ALL)?, known.header)?;
+            NarrowbandHeader.write(&header, &mut out)?;
+            check_eq(out, unpacked::<19>(numeral))?;
+            check_eq(NarrowbandHeader.read(&out, &ALL)?, header)?;
         }
         check_eq(NarrowbandHeader.bits_count(), 19)
     }
@@ -182,7 +225,12 @@ mod tests {
         for rate in 0..4u8 {
             for bytes in [9, 10, 100, 137, 263, 264] {
                 for marks in 0..4u8 {
-                    let header = Header { rate, bytes, burst: marks / 2, seed: marks % 2 };
+                    let header = Header {
+                        rate,
+                        bytes,
+                        burst: marks / 2,
+                        seed: marks % 2,
+                    };
                     let mut out = [0; 19];
                     NarrowbandHeader.write(&header, &mut out)?;
                     check_eq(NarrowbandHeader.read(&out, &ALL)?, header)?;
@@ -192,39 +240,38 @@ mod tests {
         Ok(())
     }
 
-    #[derive(Clone, Copy)]
-    struct Faulty {
-        bits: [u8; 19],
-        legal: [bool; 4],
-        fault: FormFault,
-    }
-
-    const FAULTY: [Faulty; 9] = [
-        // the check comes first, whatever else is wrong
-        Faulty { bits: [0, 0, 0, 0, 0, 0, 0, 0, 0, 0, 0, 0, 0, 0, 0, 0, 0, 0, 1], legal: ALL, fault: FormFault::Check },
-        Faulty { bits: [0, 0, 0, 1, 0, 0, 0, 0, 0, 0, 0, 0, 0, 0, 0, 0, 0, 0, 0], legal: ALL, fault: FormFault::Check },
-        Faulty { bits: [0, 0, 1, 0, 0, 0, 0, 0, 0, 0, 0, 0, 0, 0, 0, 0, 0, 0, 0], legal: ALL, fault: FormFault::Check },
-        // then the reserved bits, the lowest told
-        Faulty { bits: [0, 0, 0, 1, 0, 0, 0, 0, 0, 0, 0, 0, 0, 0, 0, 0, 0, 0, 1], legal: ALL, fault: FormFault::Reserved(3) },
-        Faulty { bits: [0, 0, 0, 0, 0, 0, 0, 0, 0, 0, 0, 0, 1, 0, 0, 1, 1, 0, 0], legal: ALL, fault: FormFault::Reserved(12) },
-        Faulty { bits: [0, 0, 0, 1, 0, 0, 0, 0, 0, 0, 0, 0, 1, 0, 0, 1, 1, 0, 1], legal: ALL, fault: FormFault::Reserved(3) },
-        Faulty { bits: [1, 0, 1, 0, 0, 0, 0, 0, 0, 0, 0, 0, 1, 0, 0, 0, 1, 1, 0], legal: ALL, fault: FormFault::Reserved(12) },
-        // then the rate
-        Faulty { bits: [0, 0, 1, 0, 0, 0, 0, 0, 0, 0, 0, 0, 0, 0, 0, 0, 0, 1, 0], legal: ALL, fault: FormFault::Rate(4) },
-        Faulty { bits: [1, 1, 0, 0, 0, 0, 0, 0, 0, 0, 0, 0, 0, 0, 0, 1, 1, 0, 0], legal: NO_3, fault: FormFault::Rate(3) },
-    ];
-
+    // The check comes first, then the reserved bits and the lowest of them, then the rate.
     #[test]
     fn tells_the_first_fault() -> Result<(), Fail> {
-        for case in FAULTY {
-            check_eq(NarrowbandHeader.read(&case.bits, &case.legal), Err(ReadHeaderFault::Form(case.fault)))?;
+        let faulty = [
+            (0b000_0_00000000_0_0_0_0001, ALL, FormFault::Check),
+            (0b000_1_00000000_0_0_0_0000, ALL, FormFault::Check),
+            (0b001_0_00000000_0_0_0_0000, ALL, FormFault::Check),
+            (0b000_1_00000000_0_0_0_0001, ALL, FormFault::Reserved(3)),
+            (0b000_0_00000000_1_0_0_1100, ALL, FormFault::Reserved(12)),
+            (0b000_1_00000000_1_0_0_1101, ALL, FormFault::Reserved(3)),
+            (0b101_0_00000000_1_0_0_0110, ALL, FormFault::Reserved(12)),
+            (0b001_0_00000000_0_0_0_0010, ALL, FormFault::Rate(4)),
+            (0b111_0_11010000_0_1_1_0001, NO_3, FormFault::Rate(7)),
+            (0b110_0_00000000_0_0_0_1100, NO_3, FormFault::Rate(3)),
+        ];
+        for (numeral, legal, fault) in faulty {
+            check_eq(
+                NarrowbandHeader.read(&unpacked::<19>(numeral), &legal),
+                Err(ReadHeaderFault::Form(fault)),
+            )?;
         }
         Ok(())
     }
 
     #[test]
     fn refuses_to_write() -> Result<(), Fail> {
-        let good = Header { rate: 0, bytes: 9, burst: 0, seed: 0 };
+        let good = Header {
+            rate: 0,
+            bytes: 9,
+            burst: 0,
+            seed: 0,
+        };
         let bad = [
             Header { rate: 4, ..good },
             Header { bytes: 8, ..good },
@@ -266,7 +313,10 @@ mod tests {
             (ReadHeaderFault::Form(FormFault::Rate(7)), 14, 2, 7),
         ];
         for (fault, number, layer, place) in told {
-            check_eq((fault.number(), fault.layer(), fault.place()), (number, layer, place))?;
+            check_eq(
+                (fault.number(), fault.layer(), fault.place()),
+                (number, layer, place),
+            )?;
         }
         Ok(())
     }

@@ -28,3 +28,15 @@ pub(crate) fn number_of(bits: &[u8]) -> u8
     }
     number
 }
+
+// The last N bits of a numeral, as it is written.
+#[cfg(test)]
+pub(crate) fn unpacked<const N: usize>(numeral: u32) -> [u8; N]
+    requires { ⌜ N ≤ 32 ⌝ }
+{
+    let mut bits = [0; N];
+    for (i, bit) in bits.iter_mut().enumerate() {
+        *bit = (numeral >> (N - 1 - i) & 1) as u8;
+    }
+    bits
+}

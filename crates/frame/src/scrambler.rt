@@ -22,7 +22,9 @@ impl Keystream {
         requires { ⌜ seed < 2 ⌝ }
         ensures { λ r. ⌜ Holds seed 0 (r .register) ⌝ }
     {
-        Keystream { register: STARTS[seed as usize] }
+        Keystream {
+            register: STARTS[seed as usize],
+        }
     }
 
     // x[n], and on to n + 1.
@@ -79,33 +81,26 @@ pub fn unscramble(seed: u8, bits: &[u8], psdu: &mut [u8]) -> Result<(), BadCall>
 #[cfg(test)]
 mod tests {
     use super::*;
+    use crate::numbers::unpacked;
     use bits::BadCallDebug;
     use bits::BadCallPartialEq;
     use std::test::*;
 
-    #[derive(Clone, Copy)]
-    struct Case {
-        seed: u8,
-        psdu: [u8; 2],
-        bits: [u8; 16],
-    }
-
-    const CASES: [Case; 4] = [
-        Case { seed: 0, psdu: [0, 0], bits: [0, 0, 0, 1, 1, 1, 0, 0, 0, 0, 1, 1, 1, 1, 1, 0] },
-        Case { seed: 1, psdu: [0, 0], bits: [1, 1, 1, 0, 0, 1, 1, 1, 1, 1, 1, 1, 0, 1, 1, 1] },
-        Case { seed: 0, psdu: [1, 128], bits: [1, 0, 0, 1, 1, 1, 0, 0, 0, 0, 1, 1, 1, 1, 1, 1] },
-        Case { seed: 1, psdu: [255, 53], bits: [0, 0, 0, 1, 1, 0, 0, 0, 0, 1, 0, 1, 1, 0, 1, 1] },
-    ];
-
     #[test]
     fn scrambles_and_unscrambles() -> Result<(), Fail> {
-        for case in CASES {
+        let known = [
+            (0, [0, 0], 0b00011100_00111110),
+            (1, [0, 0], 0b11100111_11110111),
+            (0, [1, 128], 0b10011100_00111111),
+            (1, [255, 53], 0b00011000_01011011),
+        ];
+        for (seed, psdu, numeral) in known {
             let mut bits = [7; 16];
-            scramble(case.seed, &case.psdu, &mut bits)?;
-            check_eq(bits, case.bits)?;
-            let mut psdu = [7; 2];
-            unscramble(case.seed, &bits, &mut psdu)?;
-            check_eq(psdu, case.psdu)?;
+            scramble(seed, &psdu, &mut bits)?;
+            check_eq(bits, unpacked::<16>(numeral))?;
+            let mut back = [7; 2];
+            unscramble(seed, &bits, &mut back)?;
+            check_eq(back, psdu)?;
         }
         scramble(1, &[], &mut [])?;
         unscramble(0, &[], &mut [])?;
@@ -113,17 +108,24 @@ mod tests {
     }
 
     #[test]
-    fn refuses_bad_calls() -> Result<(), Fail> {
-        let mut bits = [7; 17];
-        check_eq(scramble(2, &[1, 2], &mut bits[0..16]), Err(BadCall))?;
-        check_eq(scramble(0, &[1, 2], &mut bits[0..15]), Err(BadCall))?;
-        check_eq(scramble(0, &[1, 2], &mut bits), Err(BadCall))?;
-        check_eq(bits, [7; 17])?;
-        let mut psdu = [7; 2];
-        check_eq(unscramble(2, &[0; 16], &mut psdu), Err(BadCall))?;
-        check_eq(unscramble(0, &[0; 15], &mut psdu), Err(BadCall))?;
-        check_eq(unscramble(0, &[0; 17], &mut psdu), Err(BadCall))?;
-        check_eq(unscramble(0, &[0, 0, 0, 0, 0, 0, 0, 0, 0, 0, 0, 0, 0, 0, 0, 2], &mut psdu), Err(BadCall))?;
-        check_eq(psdu, [7; 2])
+    fn refuses_to_scramble() -> Result<(), Fail> {
+        for (seed, count) in [(2, 16), (0, 15), (0, 17)] {
+            let mut bits = [7; 17];
+            check_eq(scramble(seed, &[1, 2], &mut bits[0..count]), Err(BadCall))?;
+            check_eq(bits, [7; 17])?;
+        }
+        Ok(())
+    }
+
+    #[test]
+    fn refuses_to_unscramble() -> Result<(), Fail> {
+        for (seed, count, last) in [(2, 16, 1), (0, 15, 1), (0, 17, 1), (0, 16, 2)] {
+            let mut bits = [0; 17];
+            bits[15] = last;
+            let mut psdu = [7; 2];
+            check_eq(unscramble(seed, &bits[0..count], &mut psdu), Err(BadCall))?;
+            check_eq(psdu, [7; 2])?;
+        }
+        Ok(())
     }
 }

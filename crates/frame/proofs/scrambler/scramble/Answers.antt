@@ -31,5 +31,5 @@ returns c =
       all-from-getD Byte xs 0 (λ k l. c .typed .psdu k .fits),
       omega arith,
       sym (take-all (8 * c .loop-i .i) bs (omega arith)) ∙ c .loop-i .inv .1
-      ∙ ap (scrambled (c .args .seed)) (take-all (c .loop-i .i) xs (omega arith)),
+          ∙ ap (scrambled (c .args .seed)) (take-all (c .loop-i .i) xs (omega arith)),
     )

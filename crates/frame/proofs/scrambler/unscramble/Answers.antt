@@ -31,7 +31,7 @@ loop-i-again c =
       holds-next seed i xs bs inside long _ (next .1),
       unscramble-more seed i xs bs inside long (c .number-of .result) (c .next-byte .result) (c .are-bits .ensures .0 (c .if-not-are-bits .left)) (c .loop-i .inv .1) (next .0) (c .number-of .ensures),
       rw (take-more-set xs i y inside)
-      (all-push Byte (take i xs) y (c .loop-i .inv .2) (xor-lt 8 (c .number-of .result) (c .next-byte .result) (c .number-of .ok) (c .next-byte .ok))),
+          (all-push Byte (take i xs) y (c .loop-i .inv .2) (xor-lt 8 (c .number-of .result) (c .next-byte .result) (c .number-of .ok) (c .next-byte .ok))),
     )
 
 pub returns : need.returns

@@ -19,6 +19,6 @@ returns c =
       r,
       c .if-out-ne-BITS .left,
       header-written (c .args .out .now) (c .put-low-bits .last .places) (c .put-low-bits-2 .last .places) (fields-of (c .args .header .now))
-      (c .if-out-ne-BITS .left) (c .put-low-bits .ensures) (c .put-low-bits-2 .ensures) (c .check-sequence-check .result) (c .copy-from-slice .last .self) r
-      (c .check-sequence-check .ensures) (c .copy-from-slice .ensures .after),
+          (c .if-out-ne-BITS .left) (c .put-low-bits .ensures) (c .put-low-bits-2 .ensures) (c .check-sequence-check .result) (c .copy-from-slice .last .self) r
+          (c .check-sequence-check .ensures) (c .copy-from-slice .ensures .after),
     )
