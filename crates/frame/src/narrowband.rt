@@ -56,7 +56,7 @@ fn check_sequence(bits: &[u8]) -> [u8; 4]
     [check >> 3 & 1, check >> 2 & 1, check >> 1 & 1, check & 1]
 }
 
-// Whether a header has these fields.
+// Whether each field is in its range.
 fn in_range(header: &Header) -> bool
     ensures { λ r. ⌜ Decides r (InRange narrowband (fields-of (now (header .entry)))) ⌝ }
 {
@@ -67,7 +67,8 @@ fn in_range(header: &Header) -> bool
         && header.seed <= 1
 }
 
-fn look_at_check(bits: &[u8]) -> Result<(), FormFault>
+// The check bits are those of the fifteen bits before them.
+fn verify_hcs(bits: &[u8]) -> Result<(), FormFault>
     requires { ⌜ Bits 19 (now bits) ⌝ }
     ensures { λ r. ⌜ Cases r (λ _. Checked narrowband (now (bits .entry))) (λ e. (e ≡ FormFault.Check) × (Checked narrowband (now (bits .entry)) → ⊥)) ⌝ }
 {
@@ -79,7 +80,8 @@ fn look_at_check(bits: &[u8]) -> Result<(), FormFault>
     }
 }
 
-fn look_at_reserved(bits: &[u8]) -> Result<(), FormFault>
+// Bits 3 and 12 are zero.
+fn verify_reserved(bits: &[u8]) -> Result<(), FormFault>
     requires { ⌜ Bits 19 (now bits) ⌝ }
     ensures { λ r. ⌜ Cases r (λ _. Clear narrowband (now (bits .entry))) (λ e. elim e [ Check ↦ ⊥ | Reserved p ↦ LowestSet narrowband (now (bits .entry)) p | Rate r ↦ ⊥ ]) ⌝ }
 {
@@ -92,7 +94,8 @@ fn look_at_reserved(bits: &[u8]) -> Result<(), FormFault>
     Ok(())
 }
 
-fn look_at_rate(rate: u8, legal: &[bool; 4]) -> Result<(), FormFault>
+// The plan carries the rate.
+fn verify_rate(rate: u8, legal: &[bool; 4]) -> Result<(), FormFault>
     ensures { λ r. ⌜ Cases r (λ _. Carried (now (legal .entry)) rate) (λ e. (e ≡ FormFault.Rate rate) × (Carried (now (legal .entry)) rate → ⊥)) ⌝ }
 {
     if rate > 3 || !legal[rate as usize] {
@@ -130,10 +133,10 @@ pub impl HeaderForm for NarrowbandHeader as NarrowbandForm {
         if bits.len() != BITS || !are_bits(bits) {
             return Err(ReadHeaderFault::Call(BadCall));
         }
-        look_at_check(bits)?;
-        look_at_reserved(bits)?;
+        verify_hcs(bits)?;
+        verify_reserved(bits)?;
         let rate = *rate0 + 2 * *rate1 + 4 * *rate2;
-        look_at_rate(rate, legal)?;
+        verify_rate(rate, legal)?;
         let length = number_of(&rest[1..9]);
         Ok(Header {
             rate,
@@ -158,6 +161,7 @@ mod tests {
     use bits::BadCallPartialEq;
     use std::test::*;
 
+    // the rates that a plan carries
     const ALL: [bool; 4] = [true; 4];
 
     const NO_3: [bool; 4] = [true, true, true, false];

@@ -6,7 +6,7 @@ use Rattle.std.proofs.shelf.Ways.{not-from-decides}
 use Rattle.frame.specs.Headers.{Checked}
 use Rattle.frame.specs.Narrowband.{narrowband}
 use Rattle.frame.proofs.Written.{check-decides}
-use Rattle.frame.proofs.narrowband.look_at_check.Needs as need
+use Rattle.frame.proofs.narrowband.verify_hcs.Needs as need
 
 pub returns-then-eq : need.returns-then-eq
 returns-then-eq c =

@@ -1,7 +1,7 @@
 use mathlib.Core.Path.{refl}
 use native.Mathlib.Omega.{arith}
 use Rattle.frame.proofs.Reading.{bit-at}
-use Rattle.frame.proofs.narrowband.look_at_reserved.Needs as need
+use Rattle.frame.proofs.narrowband.verify_reserved.Needs as need
 
 pub returns-then-bits-eq1-2 : need.returns-then-bits-eq1-2
 returns-then-bits-eq1-2 c = record {
