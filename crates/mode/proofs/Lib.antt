@@ -1,0 +1,12 @@
+pub mod Strings
+pub mod Firsts
+pub mod Turns
+pub mod Splits
+pub mod Moves
+pub mod Spoils
+pub mod Stepping
+pub mod Whole
+pub mod Readings
+pub mod Hearings
+pub mod Coding
+pub mod Room
