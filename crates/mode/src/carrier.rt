@@ -1,5 +1,6 @@
 ghost use mathlib.Core.Path.{_≡_};
 ghost use Prim.Native.Nat.{_≤_};
+ghost use Rattle.mapping.specs.Answers.{Steps};
 ghost use Rattle.mode.specs.Modes.{Mode, Lawful};
 ghost use Rattle.mode.specs.Answers.{Counts, Sends, Hears};
 ghost use Rattle.mode.specs.declared.choice.Choice.the-variants.{First, Second};
@@ -12,6 +13,10 @@ pub trait Carrier: Copy {
     ghost mode: { Self → Mode };
 
     law lawful: { (c : Self) → Lawful (mode c) };
+
+    // The symbol to which the mapping's bits lead from the prior symbol.
+    fn step(&self, prior: u8, bits: &[u8]) -> Result<u8, BadCall>
+        ensures { λ r. ⌜ Steps (mode (now (self .entry)) .map) prior (now (bits .entry)) r ⌝ };
 
     // How many symbols n bits take.
     fn symbol_count(&self, n: usize) -> Result<usize, BadCall>
@@ -29,6 +34,13 @@ pub trait Carrier: Copy {
 
 pub impl<A: Carrier, B: Carrier> Carrier for Choice<A, B> as ChoiceCarrier {
     ghost mode = { λ s. elim s [ First a ↦ A·Carrier .mode a | Second b ↦ B·Carrier .mode b ] };
+
+    fn step(&self, prior: u8, bits: &[u8]) -> Result<u8, BadCall> {
+        match self {
+            Choice::First(a) => a.step(prior, bits),
+            Choice::Second(b) => b.step(prior, bits),
+        }
+    }
 
     fn symbol_count(&self, n: usize) -> Result<usize, BadCall> {
         match self {

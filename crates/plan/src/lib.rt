@@ -1,0 +1,4 @@
+// Plans: which modes a radio uses for what.
+pub mod radio;
+
+pub use radio::RadioPlan;
