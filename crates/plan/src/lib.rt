@@ -1,6 +1,7 @@
 // Plans: which modes a radio uses for what.
 pub mod band;
 mod bands;
+mod preamble;
 pub mod radio;
 
 ghost use Rattle.plan.specs.Table.{BandTable};
