@@ -12,8 +12,8 @@ use Rattle.std.specs.declared.option.Option.the-variants.{None}
 use Rattle.std.proofs.shelf.Tests.{eqb-true, and-parts, cases-eq}
 use Rattle.plan.specs.declared.band.Band.{Band}
 use Rattle.plan.specs.declared.band.Band.the-variants.{Mhz402, Mhz420, Mhz863, Mhz902, Mhz950, Mhz2360, Mhz2400}
-use Rattle.plan.specs.Bands.{first, second, preamble, lower-rates, gmsk-rates, upper-rates, plan-of}
-use Rattle.plan.specs.Table.{Recurs, BandTable}
+use Rattle.plan.specs.Bands.{number-of, first, second, preamble, lower-rates, gmsk-rates, upper-rates, plan-of}
+use Rattle.plan.specs.Table.{all-bands, Recurs, BandTable}
 use Rattle.plan.proofs.Lawful.{band-lawful}
 
 past-end : {A : Type 0} (xs : List A) (d : A) (r : ℕ) → length xs ≤ r → getD xs r d ≡ d
@@ -45,28 +45,37 @@ passes p (suc n) e k h =
     ]
 
 abbrev recurs-at : List ℕ → List ℕ → ℕ → Bool
-recurs-at before bits n = eqb (getD bits (n + 6) 0) (sum (map (λ k. getD bits (n + 6 - k) 0) before) % 2)
+recurs-at places bits n = eqb (getD bits (n + 6) 0) (sum (map (λ k. getD bits (n + 6 - k) 0) places) % 2)
 
-recurs : (before bits : List ℕ) → below (recurs-at before bits) 57 ≡ true → Recurs before bits
-recurs before bits e n h = eqb-true _ _ (passes (recurs-at before bits) 57 e n h)
+recurs : (places bits : List ℕ) → below (recurs-at places bits) 57 ≡ true → Recurs places bits
+recurs places bits e n h = eqb-true _ _ (passes (recurs-at places bits) 57 e n h)
 
-first-recurs : below (recurs-at (1 ∷ 6 ∷ []) (preamble first)) 57 ≡ true
+even-recurs : below (recurs-at (1 ∷ 6 ∷ []) (preamble first)) 57 ≡ true
 unfolding below preamble
-first-recurs = refl
+even-recurs = refl
 
-second-recurs : below (recurs-at (1 ∷ 2 ∷ 5 ∷ 6 ∷ []) (preamble second)) 57 ≡ true
+odd-recurs : below (recurs-at (1 ∷ 2 ∷ 5 ∷ 6 ∷ []) (preamble second)) 57 ≡ true
 unfolding below preamble
-second-recurs = refl
+odd-recurs = refl
+
+numbers : (b : Band) → getD all-bands (number-of b) Mhz402 ≡ b
+numbers Mhz402 = refl
+numbers Mhz420 = refl
+numbers Mhz863 = refl
+numbers Mhz902 = refl
+numbers Mhz950 = refl
+numbers Mhz2360 = refl
+numbers Mhz2400 = refl
 
 pub table : BandTable
 table =
     record {
-      numbers = refl;
+      numbers = numbers;
       last-channels = refl;
       start-symbols = refl;
-      reserved = refl;
-      over = over;
-      first-recurs = recurs (1 ∷ 6 ∷ []) (preamble first) first-recurs;
-      second-recurs = recurs (1 ∷ 2 ∷ 5 ∷ 6 ∷ []) (preamble second) second-recurs;
+      rates = refl;
+      none-over-3 = over;
+      even-recurs = recurs (1 ∷ 6 ∷ []) (preamble first) even-recurs;
+      odd-recurs = recurs (1 ∷ 2 ∷ 5 ∷ 6 ∷ []) (preamble second) odd-recurs;
       lawful = band-lawful;
     }

@@ -46,9 +46,11 @@ fn symbols(mode: Option<BandMode>) -> Result<Option<usize>, BadCall> {
 
 #[test]
 fn has_seven_bands() -> Result<(), Fail> {
-    let mut number = 0;
-    for (last, start, header, payload) in BANDS {
+    let bands = all_bands();
+    for number in 0..7u32 {
+        let (last, start, header, payload) = BANDS[number as usize];
         let band = Band::new(number)?;
+        check_eq(band, bands[number as usize])?;
         check_eq(band.number(), number)?;
         check_eq(band.last_channel(), last)?;
         check_eq(band.start(), start)?;
@@ -57,7 +59,6 @@ fn has_seven_bands() -> Result<(), Fail> {
             check_eq(symbols(band.payload(rate)), Ok(payload[rate as usize]))?;
         }
         check(band.payload(4).is_none())?;
-        number += 1;
     }
     check_eq(Band::new(7), Err(Fault::Band))?;
     check_eq(Band::new(u32::MAX), Err(Fault::Band))
