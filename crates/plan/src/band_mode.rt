@@ -1,4 +1,4 @@
-// The modes of the bands.
+// The modes of the bands: each has the name of its mapping and the count of its copies.
 use block_code::Bch63;
 use block_code::Plain;
 use mapping::D8psk;
@@ -15,9 +15,9 @@ type PhaseMode = Choice<Chain<Bch63, Dbpsk>, Choice<Chain<Bch63, Dqpsk>, Chain<B
 // GMSK, over the code 63/51 or the plain code.
 type GmskMode = Choice<Chain<Bch63, Gmsk>, Chain<Plain, Gmsk>>;
 
+// What carries the headers and payloads of the bands.
 pub type BandMode = Choice<PhaseMode, GmskMode>;
 
-// Each has the name of its mapping and the count of its copies.
 pub(crate) const DBPSK_4: BandMode = Choice::First(Choice::First(Chain {
     code: Bch63,
     copies: Copies::Four,

@@ -44,6 +44,7 @@ impl Band {
         }
     }
 
+    // Its number, 0 to 6.
     pub fn number(&self) -> u32
         ensures { λ r. ⌜ r ≡ numberOf (now (self .entry)) ⌝ }
     {
@@ -62,8 +63,9 @@ pub impl RadioPlan for Band as BandPlan {
         match self {
             Band::Mhz402 => 9,
             Band::Mhz420 => 13,
-            Band::Mhz863 | Band::Mhz950 => 11,
+            Band::Mhz863 => 11,
             Band::Mhz902 => 47,
+            Band::Mhz950 => 11,
             Band::Mhz2360 => 37,
             Band::Mhz2400 => 78,
         }
