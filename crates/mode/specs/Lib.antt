@@ -1,8 +1,10 @@
 pub mod Shares
 pub mod Orders
 pub mod Copying
+pub mod Heard
 pub mod Modes
 pub mod Parts
+pub mod Hearing
 pub mod Faults
 pub mod Answers
 pub mod Laws

@@ -1,9 +1,11 @@
 // Modes: a block code, a count of copies and a mapping, which carry bits as symbols.
+mod air_bit;
 pub mod carrier;
 pub mod chain;
 pub mod choice;
 mod coder;
 pub mod copies;
+mod decoder;
 pub mod fault;
 pub mod interleaver;
 pub mod laws;

@@ -1,0 +1,2 @@
+// Posts: open, retune, send and hear.
+mod sending;
