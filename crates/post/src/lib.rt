@@ -1,2 +1,3 @@
 // Posts: open, retune, send and hear.
+mod hearing;
 mod sending;
