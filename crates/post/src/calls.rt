@@ -5,6 +5,7 @@ ghost use Rattle.std.specs.declared.result.Result.the-variants.{Ok, Err};
 ghost use Rattle.mode.specs.Modes.{Carried, count as countOf};
 ghost use Rattle.delivery.specs.Calls.{Opens, Retunes, Sends, Hears};
 ghost use Rattle.delivery.specs.Delivery.{Delivery};
+ghost use Rattle.delivery.specs.Plans.{legal};
 use crate::hearing::read_header;
 use crate::hearing::read_payload;
 use crate::post::Post;
@@ -84,5 +85,40 @@ impl<P: RadioPlan> Post<P> {
         write_frame(&form, &mode, &payload, self.plan.start(), &preamble, &header, psdu, head, &mut symbols[0..needed]);
         self.seed = 1 - self.seed;
         Ok(needed)
+    }
+
+    // Hears a list, which begins with the last preamble symbol: delivers the frame that has it within reach, its PSDU at
+    // the front of the output, or tells the first fault.
+    pub fn hear(&self, list: &[u8], output: &mut [u8]) -> Result<Delivered, Fault>
+        ensures { λ r. ⌜ Hears (P·RadioPlan .plan (now (self .entry) .plan)) (now (list .entry)) (now (output .entry)) (now (output .exit)) r ⌝ }
+    {
+        if output.len() < 264 {
+            return Err(Fault::Output);
+        }
+        let form = self.plan.form();
+        let mode = self.plan.header();
+        let head = count(&mode, form.bits_count());
+        if list.len() < 1 + head {
+            return Err(Fault::List(list.len()));
+        }
+        let legal = self.legal_rates();
+        let (header, spoilt) = read_header(&form, &mode, list, &legal)?;
+        let Some(payload) = self.plan.payload(u32::from(header.rate)) else {
+            unreachable()
+        };
+        let bytes = header.bytes;
+        let needed = 1 + head + count(&payload, 8 * bytes);
+        if list.len() != needed {
+            return Err(Fault::Payload(PayloadFault::Length(needed)));
+        }
+        let more = read_payload(&payload, header.seed, list, head, &mut output[0..bytes])?;
+        Ok(Delivered { rate: header.rate, burst: header.burst, seed: header.seed, bytes, spoilt: spoilt + more })
+    }
+
+    // For each rate, whether the plan has a mode.
+    fn legal_rates(&self) -> [bool; 4]
+        ensures { λ r. ⌜ r ≡ legal (P·RadioPlan .plan (now (self .entry) .plan)) ⌝ }
+    {
+        [self.plan.payload(0).is_some(), self.plan.payload(1).is_some(), self.plan.payload(2).is_some(), self.plan.payload(3).is_some()]
     }
 }
