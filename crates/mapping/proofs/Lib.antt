@@ -1,0 +1,4 @@
+pub mod Numbers
+pub mod Tables
+pub mod Lawful
+pub mod Defined
