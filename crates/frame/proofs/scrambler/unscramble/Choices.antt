@@ -1,0 +1,13 @@
+use Prim.Native.Nat.{_*_}
+use mathlib.Core.Path.{_≡_}
+use lib.ListN.{take}
+use Rattle.std.specs.shelf.Lists.{All}
+use Rattle.frame.specs.Numbers.{Byte}
+use Rattle.frame.specs.Scrambler.{scrambled, Holds}
+use Rattle.frame.proofs.scrambler.unscramble.Given as given
+
+abbrev pub Inv-loop-i : given.InvT-loop-i
+Inv-loop-i l =
+    Holds (l .seed) (8 * l .i) (l .keystream .register)
+    × (scrambled (l .seed) (take (l .i) (l .psdu)) ≡ take (8 * l .i) (l .bits))
+    × All Byte (take (l .i) (l .psdu))

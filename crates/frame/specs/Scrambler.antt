@@ -1,0 +1,46 @@
+-- The scrambler: a sequence x of bits, which a seed fixes, is added to the bits of the PSDU modulo 2.
+use mathlib.Core.Path.{_≡_}
+use mathlib.Core.Bool.{cond}
+use mathlib.Core.List.{List, [], _∷_, map}
+use Prim.Native.Nat.{ℕ, zero, suc, _+_, _%_}
+use lib.Dec.{eqb}
+use lib.ListN.{getD, take}
+use Rattle.std.specs.Iters.{counting}
+use Rattle.frame.specs.Numbers.{number-of, byte-bits}
+
+-- x[−1] to x[−14], in this order
+abbrev pub start : ℕ → List ℕ
+start seed =
+    cond (eqb seed 0)
+    (0 ∷ 0 ∷ 1 ∷ 0 ∷ 1 ∷ 1 ∷ 1 ∷ 1 ∷ 0 ∷ 0 ∷ 1 ∷ 1 ∷ 0 ∷ 1 ∷ [])
+    (0 ∷ 0 ∷ 0 ∷ 0 ∷ 0 ∷ 0 ∷ 0 ∷ 1 ∷ 0 ∷ 0 ∷ 1 ∷ 1 ∷ 1 ∷ 1 ∷ [])
+
+-- x[n−2] + x[n−12] + x[n−13] + x[n−14] modulo 2, out of the list of x[n−1], x[n−2] and so on
+abbrev pub next : List ℕ → ℕ
+next xs = (getD xs 1 0 + getD xs 11 0 + getD xs 12 0 + getD xs 13 0) % 2
+
+-- the list of x[n−1], x[n−2] and so on down to x[−14]
+unfoldable pub before : ℕ → ℕ → List ℕ
+before seed zero = start seed
+before seed (suc n) = next (before seed n) ∷ before seed n
+
+-- x[n]
+unfoldable pub keystream : ℕ → ℕ → ℕ
+keystream seed n = next (before seed n)
+
+-- each bit, of which the first has the number n, gets the sequence's bit of its number added modulo 2
+abbrev pub masked : (ℕ → ℕ) → ℕ → List ℕ → List ℕ
+masked x n [] = []
+masked x n (b ∷ bs) = (b + x n) % 2 ∷ masked x (n + 1) bs
+
+-- the scrambled bits of bytes
+abbrev pub scrambled : ℕ → List ℕ → List ℕ
+scrambled seed bytes = masked (keystream seed) 0 (byte-bits bytes)
+
+-- a register holds the fourteen values before x[n], x[n−1] in its lowest bit
+abbrev pub Holds : ℕ → ℕ → ℕ → Type 0
+Holds seed n register = register ≡ number-of (take 14 (before seed n))
+
+-- x[n] to x[n+w−1] as a number, x[n] its lowest bit
+unfoldable pub mask : ℕ → ℕ → ℕ → ℕ
+mask seed n w = number-of (map (keystream seed) (counting n w))
