@@ -1,0 +1,9 @@
+pub mod Shares
+pub mod Orders
+pub mod Copying
+pub mod Modes
+pub mod Parts
+pub mod Faults
+pub mod Answers
+pub mod Laws
+pub mod Examples

@@ -1,0 +1,31 @@
+// Modes: a block code, a count of copies and a mapping, which carry bits as symbols.
+pub mod copies;
+pub mod fault;
+
+ghost use mathlib.Core.Path.{_≡_};
+ghost use Rattle.mode.specs.Faults.{number, place, hear-number as hearNumber, hear-place as hearPlace};
+pub use copies::Copies;
+pub use fault::HearFault;
+pub use fault::PartFault;
+
+impl PartFault {
+    pub fn number(&self) -> u16
+        ensures { λ r. ⌜ r ≡ number (now (self .entry)) ⌝ }
+    {
+        match self {
+            PartFault::Symbol(_) => 9,
+            PartFault::Step(_) => 10,
+            PartFault::Word(_) => 11,
+        }
+    }
+
+    pub fn place(&self) -> usize
+        ensures { λ r. ⌜ r ≡ place (now (self .entry)) ⌝ }
+    {
+        match self {
+            PartFault::Symbol(i) => *i,
+            PartFault::Step(i) => *i,
+            PartFault::Word(i) => *i,
+        }
+    }
+}
