@@ -14,5 +14,5 @@ pub record Examples : Type 0 where
   pub even : (a b c d : ℕ) → interleaved 2 2 (a ∷ b ∷ c ∷ d ∷ []) ≡ a ∷ c ∷ b ∷ d ∷ []
   pub odd : (a b c d e f : ℕ) → interleaved 2 3 (a ∷ b ∷ c ∷ d ∷ e ∷ f ∷ []) ≡ a ∷ c ∷ e ∷ b ∷ d ∷ f ∷ []
   pub padded :
-    (m : Mode) → m .code .k ≡ 51 → m .code .p ≡ 12 → m .copies ≡ 1 → m .map .w ≡ 3
-    → (pad m 80 ≡ 1) × (count m 80 ≡ 35)
+      (m : Mode) → m .code .k ≡ 51 → m .code .p ≡ 12 → m .copies ≡ 1 → m .map .w ≡ 3
+      → (pad m 80 ≡ 1) × (count m 80 ≡ 35)

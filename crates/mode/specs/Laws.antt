@@ -51,9 +51,9 @@ Reach-heard =
 -- a part that is there is refused exactly when it is within reach of no bits
 pub record Refused-exactly : Type 0 where
   pub refused :
-    (m : Mode) → Lawful m → (list : List ℕ) (at : ℕ) (before after : List ℕ) (r : Result ℕ HearFault)
-    → There m list at (length before) → Hears m list at before after r
-    → ((xs : List ℕ) (c : ℕ) → Reach m list at (length before) xs c → ⊥) → (f : PartFault) × (r ≡ Err (Part f))
+      (m : Mode) → Lawful m → (list : List ℕ) (at : ℕ) (before after : List ℕ) (r : Result ℕ HearFault)
+      → There m list at (length before) → Hears m list at before after r
+      → ((xs : List ℕ) (c : ℕ) → Reach m list at (length before) xs c → ⊥) → (f : PartFault) × (r ≡ Err (Part f))
   pub only :
-    (m : Mode) → Lawful m → (list : List ℕ) (at : ℕ) (before after xs : List ℕ) (c : ℕ) (f : PartFault)
-    → Hears m list at before after (Err (Part f)) → Reach m list at (length before) xs c → ⊥
+      (m : Mode) → Lawful m → (list : List ℕ) (at : ℕ) (before after xs : List ℕ) (c : ℕ) (f : PartFault)
+      → Hears m list at before after (Err (Part f)) → Reach m list at (length before) xs c → ⊥

@@ -2,7 +2,7 @@
 use mathlib.Core.Path.{_≡_}
 use mathlib.Core.Bool.{cond}
 use mathlib.Core.List.{List, [], _∷_, map}
-use Prim.Native.Nat.{ℕ, _+_, _-_, _*_, _/_, _%_, _<_}
+use Prim.Native.Nat.{ℕ, _+_, _-_, _*_, _/_, _%_, _^_, _<_}
 use lib.Dec.{ltb}
 use lib.ListN.{length, getD}
 use Rattle.std.specs.Iters.{counting}
@@ -68,3 +68,10 @@ Deinterleaves s input before after (Err e) = (Movable s input before → ⊥) ×
 -- each undoes the other, for every count of copies and of bits but one bit alone
 abbrev pub Undoing : Type 0 → Type 0
 Undoing A = (s t : ℕ) (xs : List A) → 0 < s → (t ≡ 1 → ⊥) → length xs ≡ s * t → (deinterleaved s t (interleaved s t xs) ≡ xs) × (interleaved s t (deinterleaved s t xs) ≡ xs)
+
+-- place i of s copies of each of t bits, which can be counted in 64 bits
+pub record Inside (s t i : ℕ) : Type 0 where
+  pub several : 0 < s
+  pub enough : t ≡ 1 → ⊥
+  pub fits : s * t < 2 ^ 64
+  pub below : i < s * t

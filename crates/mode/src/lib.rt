@@ -1,12 +1,17 @@
 // Modes: a block code, a count of copies and a mapping, which carry bits as symbols.
+pub mod carrier;
+pub mod choice;
 pub mod copies;
 pub mod fault;
+pub mod interleaver;
 
 ghost use mathlib.Core.Path.{_≡_};
 ghost use Rattle.mode.specs.Faults.{number, place, hear-number as hearNumber, hear-place as hearPlace};
 pub use copies::Copies;
 pub use fault::HearFault;
 pub use fault::PartFault;
+pub use interleaver::deinterleave;
+pub use interleaver::interleave;
 
 impl PartFault {
     pub fn number(&self) -> u16
