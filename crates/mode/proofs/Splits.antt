@@ -121,3 +121,8 @@ all-shared k n p = record {
 pub unsents-more : (k n i : ℕ) → i < words k n → drop i (unsents k n) ≡ unsent k n i ∷ drop (i + 1) (unsents k n)
 unsents-more k n i l =
     drop-more (unsents k n) i 0 (omega (arith, length-unsents k n)) ∙ ap (λ y. y ∷ drop (i + 1) (unsents k n)) (getD-unsents k n i l)
+
+-- as the code computes it
+pub unsent-is : (k n i c u : ℕ) → c ≡ words k n → u ≡ spare c (c * k - n) i → u ≡ unsent k n i
+unfolding unsent
+unsent-is k n i c u e f = f ∙ ap (λ j. spare j (j * k - n) i) e

@@ -9,14 +9,9 @@ use Rattle.bits.specs.Strings.{Bits}
 use Rattle.mode.specs.declared.fault.PartFault.{PartFault}
 use Rattle.mode.specs.declared.fault.HearFault.{HearFault}
 use Rattle.mode.specs.declared.fault.HearFault.the-variants.{Part}
-use Rattle.mode.specs.Shares.{Shares-out}
 use Rattle.mode.specs.Modes.{Mode, Lawful, Carried, count, sent}
 use Rattle.mode.specs.Parts.{There, part, Reach}
 use Rattle.mode.specs.Answers.{Hears}
-
--- the messages of all words are the bits that are carried, and none is empty
-abbrev pub All-shared : Type 0
-All-shared = (k n : ℕ) → 1 ≤ k → Shares-out k n
 
 -- a part that holds what was sent is within reach of the bits that were sent, and no bit is spoilt
 abbrev pub Sent-reaches : Type 0

@@ -45,3 +45,7 @@ pub record Shares-out (k n : ℕ) : Type 0 where
   pub each : length (unsents k n) ≡ words k n
   pub some : All (λ u. u < k) (unsents k n)
   pub sum : sumBy (λ u. k - u) (unsents k n) ≡ n
+
+-- the messages of all words are the bits that are carried, and none is empty
+abbrev pub AllShared : Type 0
+AllShared = (k n : ℕ) → 1 ≤ k → Shares-out k n

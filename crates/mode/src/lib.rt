@@ -4,6 +4,7 @@ pub mod choice;
 pub mod copies;
 pub mod fault;
 pub mod interleaver;
+pub mod sharing;
 
 ghost use mathlib.Core.Path.{_≡_};
 ghost use Rattle.mode.specs.Faults.{number, place, hear-number as hearNumber, hear-place as hearPlace};
@@ -12,6 +13,7 @@ pub use fault::HearFault;
 pub use fault::PartFault;
 pub use interleaver::deinterleave;
 pub use interleaver::interleave;
+pub use sharing::share;
 
 impl PartFault {
     pub fn number(&self) -> u16
