@@ -3,3 +3,8 @@ pub mod Firsts
 pub mod Turns
 pub mod Splits
 pub mod Moves
+pub mod Shortening
+pub mod Spoils
+pub mod Stepping
+pub mod Whole
+pub mod Readings
