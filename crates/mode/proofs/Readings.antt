@@ -1,4 +1,4 @@
--- Hearing one part: there is always an answer, and never two.
+-- What a part holds: its bits, its faults, its words, and where they stand in the list.
 use Prim.Native.Nat.{ℕ, zero, suc, _+_, _-_, _*_, _/_, _<_, _≤_}
 use mathlib.Core.Path.{_≡_, refl, sym, ap, _∙_}
 use mathlib.Core.Logic.{_⊎_, inl, inr}
@@ -6,27 +6,19 @@ use mathlib.Core.List.{List, [], _∷_, _++_}
 use native.Mathlib.Omega.{arith}
 use native.Mathlib.Nat.{mul-le-mul-left, mul-div-cancel-left}
 use lib.ListN.{length, take, drop, getD}
-use Rattle.std.specs.declared.result.Result.{Result}
-use Rattle.std.specs.declared.result.Result.the-variants.{Ok, Err}
 use Rattle.std.specs.shelf.Lists.{All}
 use Rattle.std.proofs.shelf.Tests.{cases-eq, cases-lt}
 use Rattle.std.proofs.shelf.Lists.{take-at, drop-at, length-take-le, length-drop, getD-take, getD-drop}
 use Rattle.std.proofs.shelf.Elements.{all-getD}
 use Rattle.std.proofs.shelf.Bits.{div-below}
-use Rattle.bits.specs.declared.bad_call.BadCall.{BadCall}
 use Rattle.bits.specs.Strings.{Bit, Bits}
 use Rattle.block_code.specs.Codes.{Code, word, shortened}
 use Rattle.block_code.specs.Codes as codes
-use Rattle.mode.specs.declared.fault.PartFault.{PartFault}
-use Rattle.mode.specs.declared.fault.PartFault.the-variants.{Symbol, Step, Word}
-use Rattle.mode.specs.declared.fault.HearFault.{HearFault}
-use Rattle.mode.specs.declared.fault.HearFault.the-variants.{Part, Call}
 use Rattle.mode.specs.Shares.{words, unsents}
 use Rattle.mode.specs.Orders.{forth, back}
 use Rattle.mode.specs.Copying.{spoilt}
 use Rattle.mode.specs.Modes.{Mode, Lawful, Carried, stepped, total, count, sent, air}
 use Rattle.mode.specs.Parts.{First, There, part, Strange, Unread, Amiss, Read, Reach, Within, spoilt-all, copies-of, Lost, sized, start, bit-at, Holds}
-use Rattle.mode.specs.Answers.{Faulty, Hears}
 use Rattle.mode.proofs.Strings.{take-bits, drop-bits, bits-at, append-bits, some-bits, Either, decide-le}
 use Rattle.mode.proofs.Firsts.{first-one, first-or-none}
 use Rattle.mode.proofs.Turns.{back-undoes}
@@ -52,7 +44,7 @@ find-one c s u es =
     | inr h ↦ inr (λ x b. elim (cases-lt (c .t) (spoilt s (word (shortened c u) x) es)) [ inl l ↦ l | inr l ↦ absurd (h x b l) ])
     ]
 
-decide-lost : (c : Code) (s : ℕ) (us es : List ℕ) (j : ℕ) → Either (Lost c s us es j)
+pub decide-lost : (c : Code) (s : ℕ) (us es : List ℕ) (j : ℕ) → Either (Lost c s us es j)
 decide-lost c s [] es j = inr (λ h. h)
 decide-lost c s (u ∷ us) es zero = elim (find-one c s u es) [ inl h ↦ inr (λ l. omega (arith, l (h .0) (h .1), h .2)) | inr l ↦ inl l ]
 decide-lost c s (u ∷ us) es (suc j) = decide-lost c s us (drop (s * (c .k - u + c .p)) es) j
@@ -92,11 +84,11 @@ module _ (m : Mode) (list : List ℕ) (at n : ℕ) where
   pub part-getD : (i : ℕ) → i < count m n → getD (part m list at n) i 0 ≡ getD list (at + 1 + i) 0
   part-getD i l = getD-take (count m n) (drop (at + 1) list) i 0 l ∙ getD-drop (at + 1) list i 0
 
-  prior-getD : (i : ℕ) → i ≤ count m n → getD (getD list at 0 ∷ part m list at n) i 0 ≡ getD list (at + i) 0
+  pub prior-getD : (i : ℕ) → i ≤ count m n → getD (getD list at 0 ∷ part m list at n) i 0 ≡ getD list (at + i) 0
   prior-getD zero l = ap (λ j. getD list j 0) (omega arith)
   prior-getD (suc i) l = part-getD i (omega arith) ∙ ap (λ j. getD list j 0) (omega arith)
 
-  decide-amiss : (i : ℕ) → Either (Amiss m list at i)
+  pub decide-amiss : (i : ℕ) → Either (Amiss m list at i)
   decide-amiss i = go (decide-le at i) (decide-le (m .map .q) (getD list i 0)) (cases-lt at i) (decide-unread (m .map) (getD list (i - 1) 0) (getD list i 0))
     where
       go : Either (at ≤ i) → Either (Strange m list i) → (at < i) ⊎ (i ≤ at) → Either (Unread (m .map) (getD list (i - 1) 0) (getD list i 0)) → Either (Amiss m list at i)
@@ -133,7 +125,17 @@ module _ (m : Mode) (list : List ℕ) (at n : ℕ) where
           leads-read (m .map) (getD list at 0) (part m list at n) bs (leads-of bs t r) (i - (at + 1)) (omega arith) (rw (x, y) (u .1))
     ]
 
-    fine-read : There m list at n → ((i : ℕ) → i < at + 1 + count m n → Amiss m list at i → ⊥) → (bs : List ℕ) × Read m list at n bs
+    read-of : (bs : List ℕ) → There m list at n → ((i : ℕ) → i < at + 1 + count m n → Amiss m list at i → ⊥)
+      → Leads (m .map) (length (part m list at n)) (getD list at 0) (part m list at n) bs → Read m list at n bs
+    read-of bs t h d =
+        let o = part-length t in
+        record {
+          bits = bits-at _ _ bs (ap (λ i. i * m .map .w) o ∙ count-width m L n) (d .bits);
+          known = λ i a b. elim (cases-lt (getD list i 0) (m .map .q)) [ inl l ↦ l | inr l ↦ absurd (h i (omega arith) (a, inl l)) ];
+          leads = ap (λ i. stepped (m .map) i (getD list at 0) bs) (sym o) ∙ d .same;
+        }
+
+    pub fine-read : There m list at n → ((i : ℕ) → i < at + 1 + count m n → Amiss m list at i → ⊥) → (bs : List ℕ) × Read m list at n bs
     fine-read t h =
         let o = part-length t in
         let d = read-leads (m .map) (getD list at 0) (part m list at n) (λ i l u.
@@ -141,13 +143,9 @@ module _ (m : Mode) (list : List ℕ) (at n : ℕ) where
           let x : getD (getD list at 0 ∷ part m list at n) i 0 ≡ getD list (at + 1 + i - 1) 0 = prior-getD i (omega arith) ∙ ap (λ y. getD list y 0) (omega arith) in
           let y : getD (part m list at n) i 0 ≡ getD list (at + 1 + i) 0 = part-getD i k in
           h (at + 1 + i) (omega arith) (omega arith, inr (omega arith, rw (x, y) at u))) in
-        (d .0, record {
-          bits = bits-at _ _ (d .0) (ap (λ i. i * m .map .w) o ∙ count-width m L n) (d .1 .bits);
-          known = λ i a b. elim (cases-lt (getD list i 0) (m .map .q)) [ inl l ↦ l | inr l ↦ absurd (h i (omega arith) (a, inl l)) ];
-          leads = ap (λ i. stepped (m .map) i (getD list at 0) (d .0)) (sym o) ∙ d .1 .same;
-        })
+        (d .0, read-of (d .0) t h (d .1))
 
-    start-there : (j : ℕ) → j < words (m .code .k) n → start m n j < start m n (j + 1)
+    pub start-there : (j : ℕ) → j < words (m .code .k) n → start m n j < start m n (j + 1)
     start-there j l =
         let us = unsents (m .code .k) n in
         let h : j < length us = omega (arith, length-unsents (m .code .k) n) in
@@ -155,7 +153,7 @@ module _ (m : Mode) (list : List ℕ) (at n : ℕ) where
         omega (arith, sized-more (m .code) us j h)
 
     -- a copy of the first bit of word j
-    holds-first : 2 ≤ n → (j : ℕ) → j < words (m .code .k) n → (i : ℕ) × Holds m at n j i × (i < at + 1 + count m n)
+    pub holds-first : 2 ≤ n → (j : ℕ) → j < words (m .code .k) n → (i : ℕ) × Holds m at n j i × (i < at + 1 + count m n)
     holds-first two j l =
         let s = m .copies in
         let t = total m n in
@@ -175,7 +173,7 @@ module _ (m : Mode) (list : List ℕ) (at n : ℕ) where
           high = omega (arith, e);
         }, omega arith)
 
-    decide-holds : (j i : ℕ) → Either (Holds m at n j i)
+    pub decide-holds : (j i : ℕ) → Either (Holds m at n j i)
     decide-holds j i = elim (first-or-none Here decide (m .copies * total m n)) [
       | inl f ↦ inl (record { copy = f .0; there = f .1 .below; index = f .1 .has .0; low = f .1 .has .1; high = f .1 .has .2 })
       | inr f ↦ inr (λ h. f (h .copy) (h .there) (h .index, h .low, h .high))
