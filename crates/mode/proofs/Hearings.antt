@@ -96,7 +96,7 @@ module _ (m : Mode) (L : Lawful m) (list : List ℕ) (at n : ℕ) where
   module _ (t : There m list at n) where
     by-words : (bs : List ℕ) → Read m list at n bs
         → ((j : ℕ) × First (Lost (m .code) (m .copies) (unsents (m .code .k) n) (copies-of m n bs)) (words (m .code .k) n) j)
-          ⊎ ((j : ℕ) → j < words (m .code .k) n → Lost (m .code) (m .copies) (unsents (m .code .k) n) (copies-of m n bs) j → ⊥) → Told
+        ⊎ ((j : ℕ) → j < words (m .code .k) n → Lost (m .code) (m .copies) (unsents (m .code .k) n) (copies-of m n bs) j → ⊥) → Told
     by-words bs r (inl f) = go (first-or-none (Holds m at n (f .0)) (decide-holds m list at n L (f .0)) (at + 1 + count m n))
       where
         go : ((i : ℕ) × First (Holds m at n (f .0)) (at + 1 + count m n) i) ⊎ ((i : ℕ) → i < at + 1 + count m n → Holds m at n (f .0) i → ⊥) → Told
@@ -105,14 +105,18 @@ module _ (m : Mode) (L : Lawful m) (list : List ℕ) (at n : ℕ) where
     by-words bs r (inr f) =
         let k = m .code .k in
         let w = found-within (m .code) (m .copies) (unsents k n) (copies-of m n bs) (λ j l. f j (omega (arith, length-unsents k n))) in
-        inl (w .0, _, record {
-          there = t;
-          valid = bits-at _ _ (w .0) (carried-unsents k n (roomy m L)) (w .1);
-          bits = bs;
-          read = r;
-          within = w .2;
-          counts = refl;
-        })
+        inl (
+          w .0,
+          _,
+          record {
+            there = t;
+            valid = bits-at _ _ (w .0) (carried-unsents k n (roomy m L)) (w .1);
+            bits = bs;
+            read = r;
+            within = w .2;
+            counts = refl;
+          },
+        )
 
     by-symbols : ((i : ℕ) × First (Amiss m list at) (at + 1 + count m n) i) ⊎ ((i : ℕ) → i < at + 1 + count m n → Amiss m list at i → ⊥) → Told
     by-symbols (inl f) = elim (decide-le (m .map .q) (getD list (f .0) 0)) [
@@ -122,7 +126,7 @@ module _ (m : Mode) (L : Lawful m) (list : List ℕ) (at n : ℕ) where
     by-symbols (inr f) =
         let r = fine-read m list at n L t f in
         by-words (r .0) (r .1) (first-or-none (Lost (m .code) (m .copies) (unsents (m .code .k) n) (copies-of m n (r .0)))
-          (decide-lost (m .code) (m .copies) (unsents (m .code .k) n) (copies-of m n (r .0))) (words (m .code .k) n))
+        (decide-lost (m .code) (m .copies) (unsents (m .code .k) n) (copies-of m n (r .0))) (words (m .code .k) n))
 
     pub told : Told
     told = by-symbols (first-or-none (Amiss m list at) (decide-amiss m list at n) (at + 1 + count m n))
@@ -148,7 +152,7 @@ module _ (m : Mode) (L : Lawful m) (list : List ℕ) (at n : ℕ) where
                 let j : i - (at + 1) < count m n = omega arith in
                 let x : getD (part m list at n) (i - (at + 1)) 0 ≡ getD list i 0 = part-getD m list at n (i - (at + 1)) j ∙ ap (λ y. getD list y 0) (omega arith) in
                 let z : getD (stepped (m .map) (count m n) (getD list at 0) (air m xs)) (i - (at + 1)) 0 < m .map .q =
-                  all-getD (λ y. y < m .map .q) (stepped (m .map) (count m n) (getD list at 0) (air m xs)) (i - (at + 1)) 0 (omega (arith, length-stepped (m .map) (count m n) (getD list at 0) (air m xs))) low in
+                all-getD (λ y. y < m .map .q) (stepped (m .map) (count m n) (getD list at 0) (air m xs)) (i - (at + 1)) 0 (omega (arith, length-stepped (m .map) (count m n) (getD list at 0) (air m xs))) low in
                 rw (← x) (rw q z)
             | inr l ↦ let x : i ≡ at = omega arith in rw x k
           ];
@@ -193,6 +197,6 @@ module _ (m : Mode) (L : Lawful m) (list : List ℕ) (at : ℕ) (before : List �
 
 pub refused-exactly : Refused-exactly
 refused-exactly = record {
-    refused = λ m L list at before after r. refused m L list at before after r;
-    only = λ m L list at before after xs c f h r. reach-faultless m L list at (length before) xs c f r (h .1);
-  }
+  refused = λ m L list at before after r. refused m L list at before after r;
+  only = λ m L list at before after xs c f h r. reach-faultless m L list at (length before) xs c f r (h .1);
+}

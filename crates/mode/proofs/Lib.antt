@@ -3,7 +3,6 @@ pub mod Firsts
 pub mod Turns
 pub mod Splits
 pub mod Moves
-pub mod Shortening
 pub mod Spoils
 pub mod Stepping
 pub mod Whole

@@ -19,7 +19,8 @@ use Rattle.mode.specs.Orders.{forth, back}
 use Rattle.mode.specs.Copying.{spoilt}
 use Rattle.mode.specs.Modes.{Mode, Lawful, Carried, stepped, total, count, sent, air}
 use Rattle.mode.specs.Parts.{First, There, part, Strange, Unread, Amiss, Read, Reach, Within, spoilt-all, copies-of, Lost, sized, start, bit-at, Holds}
-use Rattle.mode.proofs.Strings.{take-bits, drop-bits, bits-at, append-bits, some-bits, Either, decide-le}
+use Rattle.block_code.proofs.Near.{searched}
+use Rattle.mode.proofs.Strings.{take-bits, drop-bits, bits-at, append-bits, Either, decide-le}
 use Rattle.mode.proofs.Firsts.{first-one, first-or-none}
 use Rattle.mode.proofs.Turns.{back-undoes}
 use Rattle.mode.proofs.Splits.{carried, carried-unsents, unsents-below, length-unsents, unsents-more}
@@ -39,9 +40,9 @@ Found c s u es = (x : List ℕ) × Bits (c .k - u) x × (spoilt s (word (shorten
 
 find-one : (c : Code) (s u : ℕ) (es : List ℕ) → Found c s u es ⊎ Lost c s (u ∷ []) es 0
 find-one c s u es =
-    elim (some-bits (c .k - u) (λ x. spoilt s (word (shortened c u) x) es ≤ c .t) (λ x. decide-le (spoilt s (word (shortened c u) x) es) (c .t))) [
-    | inl h ↦ inl h
-    | inr h ↦ inr (λ x b. elim (cases-lt (c .t) (spoilt s (word (shortened c u) x) es)) [ inl l ↦ l | inr l ↦ absurd (h x b l) ])
+    elim (searched (c .k - u) (λ x. spoilt s (word (shortened c u) x) es ≤ c .t) (λ x. decide-le (spoilt s (word (shortened c u) x) es) (c .t))) [
+      | inl h ↦ inl h
+      | inr h ↦ inr (λ x b. elim (cases-lt (c .t) (spoilt s (word (shortened c u) x) es)) [ inl l ↦ l | inr l ↦ absurd (h x b l) ])
     ]
 
 pub decide-lost : (c : Code) (s : ℕ) (us es : List ℕ) (j : ℕ) → Either (Lost c s us es j)
@@ -126,7 +127,7 @@ module _ (m : Mode) (list : List ℕ) (at n : ℕ) where
     ]
 
     read-of : (bs : List ℕ) → There m list at n → ((i : ℕ) → i < at + 1 + count m n → Amiss m list at i → ⊥)
-      → Leads (m .map) (length (part m list at n)) (getD list at 0) (part m list at n) bs → Read m list at n bs
+        → Leads (m .map) (length (part m list at n)) (getD list at 0) (part m list at n) bs → Read m list at n bs
     read-of bs t h d =
         let o = part-length t in
         record {
@@ -139,10 +140,10 @@ module _ (m : Mode) (list : List ℕ) (at n : ℕ) where
     fine-read t h =
         let o = part-length t in
         let d = read-leads (m .map) (getD list at 0) (part m list at n) (λ i l u.
-          let k : i < count m n = omega arith in
-          let x : getD (getD list at 0 ∷ part m list at n) i 0 ≡ getD list (at + 1 + i - 1) 0 = prior-getD i (omega arith) ∙ ap (λ y. getD list y 0) (omega arith) in
-          let y : getD (part m list at n) i 0 ≡ getD list (at + 1 + i) 0 = part-getD i k in
-          h (at + 1 + i) (omega arith) (omega arith, inr (omega arith, rw (x, y) at u))) in
+        let k : i < count m n = omega arith in
+        let x : getD (getD list at 0 ∷ part m list at n) i 0 ≡ getD list (at + 1 + i - 1) 0 = prior-getD i (omega arith) ∙ ap (λ y. getD list y 0) (omega arith) in
+        let y : getD (part m list at n) i 0 ≡ getD list (at + 1 + i) 0 = part-getD i k in
+        h (at + 1 + i) (omega arith) (omega arith, inr (omega arith, rw (x, y) at u))) in
         (d .0, read-of (d .0) t h (d .1))
 
     pub start-there : (j : ℕ) → j < words (m .code .k) n → start m n j < start m n (j + 1)
@@ -164,14 +165,17 @@ module _ (m : Mode) (list : List ℕ) (at n : ℕ) where
         let u = back-undoes s t p (total-enough m L n two) in
         let x : back s t (s * start m n j) < s * t = u .below (s * start m n j) k in
         let e : bit-at m n (back s t (s * start m n j)) ≡ start m n j = ap (λ y. y / s) (u .undone (s * start m n j) k) ∙ mul-div-cancel-left (start m n j) p in
-        let d : back s t (s * start m n j) / m .map .w < count m n = div-below (back s t (s * start m n j)) (m .map .w) (count m n) (wide m L) (omega (arith, count-width m L n)) in
-        (at + 1 + back s t (s * start m n j) / m .map .w, record {
-          copy = back s t (s * start m n j);
-          there = x;
-          index = refl;
-          low = omega (arith, e);
-          high = omega (arith, e);
-        }, omega arith)
+        let d : back s t (s * start m n j) / m .map .w < count m n = div-below (back s t (s * start m n j)) (m .map .w) (count m n) (wide m L) (omega (arith, count-width m L n)) in (
+          at + 1 + back s t (s * start m n j) / m .map .w,
+          record {
+            copy = back s t (s * start m n j);
+            there = x;
+            index = refl;
+            low = omega (arith, e);
+            high = omega (arith, e);
+          },
+          omega arith,
+        )
 
     pub decide-holds : (j i : ℕ) → Either (Holds m at n j i)
     decide-holds j i = elim (first-or-none Here decide (m .copies * total m n)) [

@@ -39,8 +39,9 @@ distance-spoilt s (u ∷ us) (v ∷ vs) ys e a b c h =
   where
     one : (s u v : ℕ) (ys : List ℕ) → Bit u → Bit v → All Bit ys → length ys ≡ s → cond (eqb u v) 0 1 ≤ cond (leb s (2 * differing u ys)) 1 0 + cond (leb s (2 * differing v ys)) 1 0
     one s u v ys p q r e = elim (cases-eq u v) [
-        inl x ↦ rw (eq-eqb u v x) (omega arith)
-      | inr x ↦ let d = differing-both u v ys p q x r in grind (arith, le-leb) ]
+      | inl x ↦ rw (eq-eqb u v x) (omega arith)
+      | inr x ↦ let d = differing-both u v ys p q x r in grind (arith, le-leb)
+    ]
 
 pub word-bits : (c : Code) (m : List ℕ) → Lawful c → Bits (c .k) m → Bits (c .k + c .p) (word c m)
 word-bits c m s b =
@@ -49,15 +50,16 @@ word-bits c m s b =
 
 -- copies are within reach of one message only
 pub one-message : (c : Code) (s : ℕ) (m n ys : List ℕ) → Lawful c → Bits (c .k) m → Bits (c .k) n → All Bit ys
-  → s * (c .k + c .p) ≤ length ys → spoilt s (word c m) ys ≤ c .t → spoilt s (word c n) ys ≤ c .t → m ≡ n
+    → s * (c .k + c .p) ≤ length ys → spoilt s (word c m) ys ≤ c .t → spoilt s (word c n) ys ≤ c .t → m ≡ n
 one-message c s m n ys k a b h l p q = elim (cases-list m n) [
-    inl e ↦ e
+  | inl e ↦ e
   | inr ne ↦
       let u = word-bits c m k a in
       let v = word-bits c n k b in
       let r : length (word c m) ≡ length (word c n) = omega arith in
       let w : s * length (word c m) ≤ length ys = omega (arith, ap (λ i. s * i) (u .size)) in
-      absurd (omega (arith, k .apart m n a b ne, distance-spoilt s (word c m) (word c n) ys r (u .bits) (v .bits) h w)) ]
+      absurd (omega (arith, k .apart m n a b ne, distance-spoilt s (word c m) (word c n) ys r (u .bits) (v .bits) h w))
+]
 
 -- copies that are all equal to their bits spoil none, whatever comes after them
 differing-none : (s b : ℕ) → differing b (replicate s b) ≡ 0
@@ -96,17 +98,19 @@ pub majority-bit : (xs : List ℕ) → 0 < length xs → All Bit xs → Bit (maj
 majority-bit xs p h =
     let b : getD xs 0 0 < 2 = all-getD Bit xs 0 0 p h in
     elim (cases-lt (length xs) (2 * differing (getD xs 0 0) xs)) [
-      inl l ↦ rw (lt-ltb (length xs) (2 * differing (getD xs 0 0) xs) l) (omega arith)
-    | inr l ↦ rw (le-ltb (length xs) (2 * differing (getD xs 0 0) xs) l) (omega arith) ]
+      | inl l ↦ rw (lt-ltb (length xs) (2 * differing (getD xs 0 0) xs) l) (omega arith)
+      | inr l ↦ rw (le-ltb (length xs) (2 * differing (getD xs 0 0) xs) l) (omega arith)
+    ]
 
 pub majority-right : (b : ℕ) (xs : List ℕ) → 0 < length xs → Bit b → All Bit xs → 2 * differing b xs < length xs → majority xs ≡ b
 majority-right b xs p k h l =
     let a : getD xs 0 0 < 2 = all-getD Bit xs 0 0 p h in
     elim (cases-eq (getD xs 0 0) b) [
-      inl e ↦ let f : differing (getD xs 0 0) xs ≡ differing b xs = ap (λ i. differing i xs) e in
-              rw (le-ltb (length xs) (2 * differing (getD xs 0 0) xs) (omega arith)) e
-    | inr n ↦ let d = differing-both (getD xs 0 0) b xs a k n h in
-              rw (lt-ltb (length xs) (2 * differing (getD xs 0 0) xs) (omega arith)) (omega arith) ]
+      | inl e ↦ let f : differing (getD xs 0 0) xs ≡ differing b xs = ap (λ i. differing i xs) e in
+          rw (le-ltb (length xs) (2 * differing (getD xs 0 0) xs) (omega arith)) e
+      | inr n ↦ let d = differing-both (getD xs 0 0) b xs a k n h in
+          rw (lt-ltb (length xs) (2 * differing (getD xs 0 0) xs) (omega arith)) (omega arith)
+    ]
 
 pub decided-bits : (s n : ℕ) (xs : List ℕ) → 0 < s → s * n ≤ length xs → All Bit xs → Bits n (decided s n xs)
 decided-bits s zero xs p l h = record { size = refl; bits = tt }
@@ -127,10 +131,12 @@ decided-near s (b ∷ bs) xs p l a h =
   where
     one : Bit b → All Bit (take s xs) → length (take s xs) ≡ s → cond (eqb b (majority (take s xs))) 0 1 ≤ cond (leb s (2 * differing b (take s xs))) 1 0
     one k r e = elim (cases-lt (2 * differing b (take s xs)) s) [
-        inl q ↦ rw (eq-eqb b (majority (take s xs)) (sym (majority-right b (take s xs) (omega arith) k r (omega arith)))) (omega arith)
+      | inl q ↦ rw (eq-eqb b (majority (take s xs)) (sym (majority-right b (take s xs) (omega arith) k r (omega arith)))) (omega arith)
       | inr q ↦ rw (le-leb s (2 * differing b (take s xs)) q) (elim (cases-eq b (majority (take s xs))) [
-          inl z ↦ rw (eq-eqb b (majority (take s xs)) z) (omega arith)
-        | inr z ↦ rw (ne-eqb b (majority (take s xs)) z) (omega arith) ]) ]
+        | inl z ↦ rw (eq-eqb b (majority (take s xs)) z) (omega arith)
+        | inr z ↦ rw (ne-eqb b (majority (take s xs)) z) (omega arith)
+      ])
+    ]
 
 -- spoilt bits depend only on the copies of the word
 pub spoilt-front : (s : ℕ) (ws xs ys : List ℕ) → s * length ws ≤ length xs → spoilt s ws (xs ++ ys) ≡ spoilt s ws xs

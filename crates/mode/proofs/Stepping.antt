@@ -12,7 +12,8 @@ use Rattle.bits.specs.Strings.{Bit, Bits}
 use Rattle.mapping.specs.Maps.{Map, Lawful}
 use Rattle.mode.specs.Modes.{stepped}
 use Rattle.mode.specs.Parts.{Unread}
-use Rattle.mode.proofs.Strings.{take-bits, drop-bits, bits-at, append-bits, some-bits, Either}
+use Rattle.block_code.proofs.Near.{searched}
+use Rattle.mode.proofs.Strings.{take-bits, drop-bits, bits-at, append-bits, Either}
 
 -- bits that step through the n symbols ss, from the symbol p on
 pub record Leads (f : Map) (n p : ℕ) (ss bs : List ℕ) : Type 0 where
@@ -62,7 +63,7 @@ leads-read f p (s ∷ ss) bs h zero l u = let x = leads-more f (length ss) p s s
 leads-read f p (s ∷ ss) bs h (suc i) l u = leads-read f s ss (drop (f .w) bs) (leads-more f (length ss) p s ss bs h .1) i (omega arith) u
 
 read-one : (f : Map) (p s : ℕ) → ((bs : List ℕ) × Bits (f .w) bs × (f .next p bs ≡ s)) ⊎ Unread f p s
-read-one f p s = some-bits (f .w) (λ bs. f .next p bs ≡ s) (λ bs. cases-eq (f .next p bs) s)
+read-one f p s = searched (f .w) (λ bs. f .next p bs ≡ s) (λ bs. cases-eq (f .next p bs) s)
 
 pub decide-unread : (f : Map) (p s : ℕ) → Either (Unread f p s)
 decide-unread f p s = elim (read-one f p s) [ inl h ↦ inr (λ u. u (h .0) (h .1) (h .2)) | inr u ↦ inl u ]

@@ -20,35 +20,37 @@ use Rattle.mode.specs.Copying.{spread, spoilt}
 use Rattle.mode.specs.Modes.{Mode, Lawful, coded, plain, pad, total, count, padded, air}
 use Rattle.mode.specs.Parts.{Within, spoilt-all, sized, copies-of}
 use Rattle.mode.proofs.Turns.{Undoes, Enough, forth-undoes, back-undoes, length-permuted, getD-permuted, deinterleave-interleave}
-use Rattle.mode.proofs.Shortening.{shortened-lawful, bits-zeros}
+use Rattle.block_code.proofs.Shortening.{shortened-lawful}
+use Rattle.block_code.proofs.Zeros.{bits-zeros}
 use Rattle.mode.proofs.Spoils.{one-message, word-bits, spoilt-none, length-spread, spread-append, spread-bits}
 use Rattle.mode.proofs.Strings.{take-bits, drop-bits, bits-at, append-bits}
 use Rattle.mode.proofs.Splits.{carried, unsents-below, carried-unsents, length-unsents}
 
 -- words within reach of the same copies carry the same bits
 pub within-one : (c : Code) (s : ℕ) (us xs ys es : List ℕ) → codes.Lawful c → All (λ u. u < c .k) us → Bits (carried (c .k) us) xs → Bits (carried (c .k) us) ys
-  → All Bit es → s * sized c us ≤ length es → Within c s us xs es → Within c s us ys es → xs ≡ ys
+    → All Bit es → s * sized c us ≤ length es → Within c s us xs es → Within c s us ys es → xs ≡ ys
 within-one c s [] xs ys es k l a b h g p q = nil-from-length xs (a .size) ∙ sym (nil-from-length ys (b .size))
 within-one c s (u ∷ us) xs ys es k l a b h g p q =
     let n = c .k - u in
     let w = s * (n + c .p) in
     let v : s * (n + c .p) + s * sized c us ≤ length es = omega arith in
     let first : take n xs ≡ take n ys = one-message (shortened c u) s (take n xs) (take n ys) es (shortened-lawful c k u (l .0))
-      (take-bits n (carried (c .k) us) xs a) (take-bits n (carried (c .k) us) ys b) h (omega arith) (p .0) (q .0) in
+    (take-bits n (carried (c .k) us) xs a) (take-bits n (carried (c .k) us) ys b) h (omega arith) (p .0) (q .0) in
     let rest : drop n xs ≡ drop n ys = within-one c s us (drop n xs) (drop n ys) (drop w es) k (l .1)
-      (drop-bits n (carried (c .k) us) xs a) (drop-bits n (carried (c .k) us) ys b) (all-drop Bit w es h)
-      (simp length-drop (omega arith)) (p .1) (q .1) in
+    (drop-bits n (carried (c .k) us) xs a) (drop-bits n (carried (c .k) us) ys b) (all-drop Bit w es h)
+    (simp length-drop (omega arith)) (p .1) (q .1) in
     sym (take-append-drop n xs) ∙ cc (first, rest) ∙ take-append-drop n ys
 
 -- a rule that moves places keeps bits
 pub permuted-bits : (n : ℕ) (f g : ℕ → ℕ) (xs : List ℕ) → Undoes n f g → Bits n xs → Bits n (permuted f xs)
 permuted-bits n f g xs u b = record {
-    size = length-permuted f xs ∙ b .size;
-    bits = all-from-getD Bit (permuted f xs) 0 (λ i h.
+  size = length-permuted f xs ∙ b .size;
+  bits = all-from-getD Bit (permuted f xs) 0 (λ i h.
       let e = length-permuted f xs in
       let k = b .size in
       let m : f i < n = u .below i (omega arith) in
-      rw (getD-permuted f xs i 0 (omega arith) (omega arith)) (all-getD Bit xs (f i) 0 (omega arith) (b .bits))) }
+      rw (getD-permuted f xs i 0 (omega arith) (omega arith)) (all-getD Bit xs (f i) 0 (omega arith) (b .bits)));
+}
 
 pub sized-carried : (c : Code) (us : List ℕ) → sized c us ≡ carried (c .k) us + length us * c .p
 sized-carried c [] = omega arith
@@ -67,7 +69,7 @@ filled a w p = go (cases-eq (a % w) 0)
 
 -- the word of the next bits
 pub next-word : (c : Code) (u : ℕ) (us xs : List ℕ) → codes.Lawful c → u < c .k → Bits (carried (c .k) (u ∷ us)) xs
-  → Bits (c .k - u + c .p) (word (shortened c u) (take (c .k - u) xs))
+    → Bits (c .k - u + c .p) (word (shortened c u) (take (c .k - u) xs))
 next-word c u us xs k l b = word-bits (shortened c u) (take (c .k - u) xs) (shortened-lawful c k u l) (take-bits (c .k - u) (carried (c .k) us) xs b)
 
 pub coded-bits : (c : Code) (us xs : List ℕ) → codes.Lawful c → All (λ u. u < c .k) us → Bits (carried (c .k) us) xs → Bits (sized c us) (coded c us xs)
@@ -79,7 +81,7 @@ coded-bits c (u ∷ us) xs k l b =
 
 -- clean copies spoil no bit of any word
 spoilt-clean : (c : Code) (s : ℕ) (us xs es : List ℕ) → codes.Lawful c → 0 < s → All (λ u. u < c .k) us → Bits (carried (c .k) us) xs
-  → (Within c s us xs (spread s (coded c us xs) ++ es)) × (spoilt-all c s us xs (spread s (coded c us xs) ++ es) ≡ 0)
+    → (Within c s us xs (spread s (coded c us xs) ++ es)) × (spoilt-all c s us xs (spread s (coded c us xs) ++ es) ≡ 0)
 spoilt-clean c s [] xs es k p l b = (tt, refl)
 spoilt-clean c s (u ∷ us) xs es k p l b =
     let n = c .k - u in
@@ -122,7 +124,7 @@ module _ (m : Mode) (u : Lawful m) where
   count-width n =
       let f = filled (plain m n) (m .map .w) wide in
       let e : m .copies * (plain m n + (m .map .w - plain m n % m .map .w) % m .map .w) ≡ (m .copies * f .0) * m .map .w =
-        ap (λ i. m .copies * i) (f .1) ∙ omega arith in
+      ap (λ i. m .copies * i) (f .1) ∙ omega arith in
       rw e (ap (λ i. i * m .map .w) (mul-div-cancel (m .copies * f .0) wide))
 
   pub unsents-bits : (n : ℕ) (xs : List ℕ) → Bits n xs → Bits (carried (m .code .k) (unsents (m .code .k) n)) xs
@@ -144,7 +146,7 @@ module _ (m : Mode) (u : Lawful m) where
       rw (b .size)
       (append-bits (plain m n) (pad m n) (coded (m .code) (unsents (m .code .k) n) xs) (replicate (pad m n) 0)
       (bits-at _ _ (coded (m .code) (unsents (m .code .k) n) xs) (sized-plain n)
-        (coded-bits (m .code) (unsents (m .code .k) n) xs (u .code) (unsents-below (m .code .k) n roomy) (unsents-bits n xs b)))
+      (coded-bits (m .code) (unsents (m .code .k) n) xs (u .code) (unsents-below (m .code .k) n roomy) (unsents-bits n xs b)))
       (record { size = length-replicate (pad m n) 0; bits = bits-zeros (pad m n) }))
 
   pub air-bits : (n : ℕ) (xs : List ℕ) → 2 ≤ n → Bits n xs → Bits (m .copies * total m n) (air m xs)
@@ -163,7 +165,7 @@ module _ (m : Mode) (u : Lawful m) where
       (spread-bits (m .copies) (total m n) (padded m xs) (padded-bits n xs b) .size))
 
   clean-padded : (n : ℕ) (xs : List ℕ) → Bits n xs
-    → Within (m .code) (m .copies) (unsents (m .code .k) n) xs (spread (m .copies) (padded m xs)) × (spoilt-all (m .code) (m .copies) (unsents (m .code .k) n) xs (spread (m .copies) (padded m xs)) ≡ 0)
+      → Within (m .code) (m .copies) (unsents (m .code .k) n) xs (spread (m .copies) (padded m xs)) × (spoilt-all (m .code) (m .copies) (unsents (m .code .k) n) xs (spread (m .copies) (padded m xs)) ≡ 0)
   unfolding padded
   clean-padded n xs b =
       rw (b .size, spread-append (m .copies) (coded (m .code) (unsents (m .code .k) n) xs) (replicate (pad m n) 0))
@@ -172,5 +174,5 @@ module _ (m : Mode) (u : Lawful m) where
 
   -- what is sent spoils no bit
   pub clean : (n : ℕ) (xs : List ℕ) → 2 ≤ n → Bits n xs
-    → Within (m .code) (m .copies) (unsents (m .code .k) n) xs (copies-of m n (air m xs)) × (spoilt-all (m .code) (m .copies) (unsents (m .code .k) n) xs (copies-of m n (air m xs)) ≡ 0)
+      → Within (m .code) (m .copies) (unsents (m .code .k) n) xs (copies-of m n (air m xs)) × (spoilt-all (m .code) (m .copies) (unsents (m .code .k) n) xs (copies-of m n (air m xs)) ≡ 0)
   clean n xs l b = rw (air-copies n xs l b) (clean-padded n xs b)

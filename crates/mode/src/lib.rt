@@ -4,15 +4,18 @@ pub mod choice;
 pub mod copies;
 pub mod fault;
 pub mod interleaver;
+pub mod laws;
 pub mod sharing;
 
 ghost use mathlib.Core.Path.{_≡_};
+ghost use Rattle.mode.specs.Examples.{Examples};
 ghost use Rattle.mode.specs.Faults.{number, place, hear-number as hearNumber, hear-place as hearPlace};
 pub use copies::Copies;
 pub use fault::HearFault;
 pub use fault::PartFault;
 pub use interleaver::deinterleave;
 pub use interleaver::interleave;
+pub use laws::mode_laws;
 pub use sharing::share;
 
 impl PartFault {
@@ -35,4 +38,11 @@ impl PartFault {
             PartFault::Word(i) => *i,
         }
     }
+}
+
+// How many worked examples are stated, and that they hold by the rules.
+pub fn worked_examples() -> usize
+    ensures { λ r. ⌜ (r ≡ 6) × Examples ⌝ }
+{
+    6
 }
