@@ -8,3 +8,4 @@ pub mod Stepping
 pub mod Whole
 pub mod Readings
 pub mod Hearings
+pub mod Coding

@@ -1,6 +1,7 @@
 // Modes: a block code, a count of copies and a mapping, which carry bits as symbols.
 pub mod carrier;
 pub mod choice;
+mod coder;
 pub mod copies;
 pub mod fault;
 pub mod interleaver;
