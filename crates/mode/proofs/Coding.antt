@@ -28,10 +28,8 @@ put-end : (a k : ℕ) (xs ys : List ℕ) → length xs ≤ a + k → putMid a k 
 put-end a k xs ys l =
     ap (λ zs. take a xs ++ (ys ++ zs)) (drop-all k (drop a xs) (simp length-drop (omega arith))) ∙ ap (λ zs. take a xs ++ zs) (append-nil ys)
 
-pub put-two : (ms ns os ps : List ℕ) → ns ≡ ms → putMid (length ms) (length (ns ++ os) - length ms) (ns ++ os) ps ≡ ms ++ ps
-put-two ms ns os ps e =
-    put-end (length ms) (length (ns ++ os) - length ms) (ns ++ os) ps (omega arith)
-    ∙ ap (λ zs. zs ++ ps) (take-at ns os (length ms) (ap length e) ∙ e)
+pub put-two : (a : ℕ) (ms os ps : List ℕ) → length ms ≡ a → putMid a (length (ms ++ os) - a) (ms ++ os) ps ≡ ms ++ ps
+put-two a ms os ps e = put-end a (length (ms ++ os) - a) (ms ++ os) ps (omega arith) ∙ ap (λ zs. zs ++ ps) (take-at ms os a e)
 
 -- the parity that a shortened code gives, where it is held as the code has it
 pub put-parity : (c d : Code) (u v : ℕ) (ms ps : List ℕ) → d ≡ c → v ≡ u → u < c .k → ps ≡ shortened d (min v (d .k - 1)) .parity ms → ps ≡ shortened c u .parity ms

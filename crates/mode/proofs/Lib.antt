@@ -9,3 +9,4 @@ pub mod Whole
 pub mod Readings
 pub mod Hearings
 pub mod Coding
+pub mod Room

@@ -94,6 +94,10 @@ spoilt-clean c s (u ∷ us) xs es k p l b =
     let ih = spoilt-clean c s us (drop n xs) es k p (l .1) (drop-bits n (carried (c .k) us) xs b) in
     (rw e (omega (arith, z), rw d (ih .0)), rw e (rw (d, z) (omega (arith, ih .1))))
 
+pub plain-total : (m : Mode) (n : ℕ) → plain m n ≤ total m n
+unfolding total
+plain-total m n = omega arith
+
 module _ (m : Mode) (u : Lawful m) where
   pub roomy : 0 < m .code .k
   roomy = omega (arith, u .roomy)
@@ -110,10 +114,6 @@ module _ (m : Mode) (u : Lawful m) where
   pub sized-plain : (n : ℕ) → sized (m .code) (unsents (m .code .k) n) ≡ plain m n
   unfolding plain
   sized-plain n = omega (arith, sized-carried (m .code) (unsents (m .code .k) n), carried-unsents (m .code .k) n roomy, ap (λ i. i * m .code .p) (length-unsents (m .code .k) n))
-
-  pub plain-total : (n : ℕ) → plain m n ≤ total m n
-  unfolding total
-  plain-total n = omega arith
 
   pub total-enough : (n : ℕ) → 2 ≤ n → Enough (total m n)
   unfolding total plain
@@ -138,7 +138,7 @@ module _ (m : Mode) (u : Lawful m) where
 
   -- the copies of all words are there
   pub copies-there : (n : ℕ) → m .copies * sized (m .code) (unsents (m .code .k) n) ≤ m .copies * total m n
-  copies-there n = omega (arith, mul-le-mul-left (m .copies) (plain-total n), ap (λ i. m .copies * i) (sized-plain n))
+  copies-there n = omega (arith, mul-le-mul-left (m .copies) (plain-total m n), ap (λ i. m .copies * i) (sized-plain n))
 
   pub padded-bits : (n : ℕ) (xs : List ℕ) → Bits n xs → Bits (total m n) (padded m xs)
   unfolding total padded

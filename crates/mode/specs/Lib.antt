@@ -7,4 +7,4 @@ pub mod Faults
 pub mod Answers
 pub mod Laws
 pub mod Examples
-pub mod Copies
+pub mod Chains

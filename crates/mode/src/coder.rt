@@ -5,14 +5,19 @@ ghost use lib.ListN.{length};
 ghost use Rattle.bits.specs.Strings.{Bits};
 ghost use Rattle.block_code.specs.Codes.{shortened, word as wordOf};
 ghost use Rattle.mode.specs.Shares.{words as wordsOf, unsents};
+ghost use Rattle.mode.specs.Orders.{interleaved};
 ghost use Rattle.mode.specs.Copying.{spread as spreadOf};
 ghost use Rattle.mode.specs.Modes.{Carried, coded, stepped};
+use crate::interleaver::interleave;
 use crate::sharing::share;
 use crate::sharing::word_count;
 use block_code::BlockCode;
 use block_code::Shortened;
 use block_code::ShortenedCode;
 use mapping::Mapping;
+
+// The most copies of coded bits that a part has: four of each of 8,318.
+pub(crate) const MAX_AIR: usize = 33272;
 
 // Writes the word of a message in the code shortened by the unsent bits.
 fn put_word<C: BlockCode>(code: &C, unsent: usize, message: &[u8], output: &mut [u8])
@@ -55,7 +60,7 @@ pub(crate) fn put_words<C: BlockCode>(code: &C, bits: &[u8], output: &mut [u8])
 }
 
 // Writes each bit so many times in a row.
-pub(crate) fn spread(copies: usize, bits: &[u8], output: &mut [u8])
+fn spread(copies: usize, bits: &[u8], output: &mut [u8])
     requires { ⌜ length (now output) ≡ copies * length (now bits) ⌝ }
     ensures { λ _. ⌜ now (output .exit) ≡ spreadOf copies (now (bits .entry)) ⌝ }
 {
@@ -65,6 +70,22 @@ pub(crate) fn spread(copies: usize, bits: &[u8], output: &mut [u8])
         output[at..end].fill(*b);
         at = end;
     }
+}
+
+// Writes the copies of the coded bits in the order in which they go out.
+pub(crate) fn put_copies(copies: usize, coded: &[u8], air: &mut [u8])
+    requires several { ⌜ 0 < copies ⌝ }
+    requires enough { ⌜ (length (now coded) ≡ 1 → ⊥) ⌝ }
+    requires room { ⌜ length (now air) ≡ copies * length (now coded) ⌝ }
+    requires few { ⌜ length (now air) ≤ 33272 ⌝ }
+    ensures { λ _. ⌜ now (air .exit) ≡ interleaved copies (length (now (coded .entry))) (spreadOf copies (now (coded .entry))) ⌝ }
+{
+    let n = air.len();
+    let mut copied = [0u8; MAX_AIR];
+    spread(copies, coded, &mut copied[0..n]);
+    let Ok(_) = interleave(copies, &copied[0..n], air) else {
+        unreachable()
+    };
 }
 
 // Steps through the bits from the symbol `prior` on.

@@ -1,11 +1,13 @@
 // Modes: a block code, a count of copies and a mapping, which carry bits as symbols.
 pub mod carrier;
+pub mod chain;
 pub mod choice;
 mod coder;
 pub mod copies;
 pub mod fault;
 pub mod interleaver;
 pub mod laws;
+pub mod roomy;
 pub mod sharing;
 
 ghost use mathlib.Core.Path.{_≡_};

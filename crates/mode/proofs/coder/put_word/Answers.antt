@@ -1,5 +1,7 @@
 use mathlib.Core.Path.{_≡_, _∙_, ap}
 use mathlib.Core.List.{_++_}
+use Prim.Native.Nat.{_-_}
+use lib.ListN.{length, drop}
 use Rattle.block_code.specs.Codes.{shortened}
 use Rattle.mode.proofs.Coding.{put-two, put-parity}
 use Rattle.mode.proofs.coder.put_word.Given.{Over}
@@ -13,5 +15,6 @@ parity-is g c =
 
 pub returns : need.returns
 returns g c =
-    put-two (c .args .message .now) (c .copy-from-slice .last .self) _ (c .encode .last .parity) (c .copy-from-slice .ensures .after)
-    ∙ ap (λ ps. c .args .message .now ++ ps) (parity-is g c)
+    let e = c .copy-from-slice .ensures .after in
+    put-two (length (c .args .message .now)) (c .copy-from-slice .last .self) (drop (length (c .args .message .now) - 0) (c .args .output .now)) (c .encode .last .parity) (ap length e)
+    ∙ ap (λ ms. ms ++ c .encode .last .parity) e ∙ ap (λ ps. c .args .message .now ++ ps) (parity-is g c)

@@ -1,0 +1,103 @@
+// A mode: a code, a count of copies and a mapping.
+ghost use mathlib.Core.Path.{_≡_};
+ghost use Prim.Native.Nat.{_*_};
+ghost use lib.ListN.{length};
+ghost use Rattle.std.specs.shelf.Lists.{All};
+ghost use Rattle.bits.specs.Strings.{Bit};
+ghost use Rattle.mode.specs.Modes.{Carried, plain as plainOf, total as totalOf, count as countOf, padded as paddedOf, air as airOf};
+ghost use Rattle.mode.specs.Chains.{copy-count as copyCount, chained, Copied as CopiedOf};
+use crate::coder::put_copies;
+use crate::coder::put_words;
+use crate::copies::Copies;
+use crate::roomy::RoomyCode;
+use crate::sharing::word_count;
+use bits::BadCall;
+use block_code::BlockCode;
+use mapping::Mapping;
+
+// The most coded bits that a part has: 132 words of 63 bits, and two zeros.
+const MAX_CODED: usize = 8318;
+
+impl Copies {
+    // So many copies: 1, 2 or 4.
+    pub fn new(count: usize) -> Result<Copies, BadCall>
+        ensures { λ r. ⌜ CopiedOf count r ⌝ }
+    {
+        match count {
+            1 => Ok(Copies::One),
+            2 => Ok(Copies::Two),
+            4 => Ok(Copies::Four),
+            _ => Err(BadCall),
+        }
+    }
+
+    pub fn count(&self) -> usize
+        ensures { λ r. ⌜ r ≡ copyCount (now (self .entry)) ⌝ }
+    {
+        match self {
+            Copies::One => 1,
+            Copies::Two => 2,
+            Copies::Four => 4,
+        }
+    }
+}
+
+#[derive(Clone, Copy)]
+pub struct Chain<C, M> {
+    pub code: C,
+    pub copies: Copies,
+    pub mapping: M,
+}
+
+impl<C: RoomyCode, M: Mapping> Chain<C, M> {
+    // How many bits the words have that carry n bits.
+    fn word_bits(&self, n: usize) -> usize
+        requires { ⌜ Carried n ⌝ }
+        ensures { λ r. ⌜ r ≡ plainOf (chained (C·BlockCode .code (now (self .entry) .code)) (now (self .entry) .copies) (M·Mapping .map)) n ⌝ }
+    {
+        n + word_count(self.code.message_bits(), n) * self.code.parity_bits()
+    }
+
+    // The same with the zeros that fill up the last symbol.
+    fn coded_bits(&self, n: usize) -> usize
+        requires { ⌜ Carried n ⌝ }
+        ensures { λ r. ⌜ r ≡ totalOf (chained (C·BlockCode .code (now (self .entry) .code)) (now (self .entry) .copies) (M·Mapping .map)) n ⌝ }
+    {
+        let w = self.mapping.width();
+        let plain = self.word_bits(n);
+        plain + (w - plain % w) % w
+    }
+
+    // How many symbols n bits take.
+    fn symbols(&self, n: usize) -> usize
+        requires { ⌜ Carried n ⌝ }
+        ensures { λ r. ⌜ r ≡ countOf (chained (C·BlockCode .code (now (self .entry) .code)) (now (self .entry) .copies) (M·Mapping .map)) n ⌝ }
+    {
+        self.copies.count() * self.coded_bits(n) / self.mapping.width()
+    }
+
+    // Writes the words that carry the bits, and the zeros after them.
+    fn write_coded(&self, bits: &[u8], coded: &mut [u8])
+        requires carried { ⌜ Carried (length (now bits)) ⌝ }
+        requires bits { ⌜ All Bit (now bits) ⌝ }
+        requires room { ⌜ length (now coded) ≡ totalOf (chained (C·BlockCode .code (now self .code)) (now self .copies) (M·Mapping .map)) (length (now bits)) ⌝ }
+        ensures { λ _. ⌜ now (coded .exit) ≡ paddedOf (chained (C·BlockCode .code (now (self .entry) .code)) (now (self .entry) .copies) (M·Mapping .map)) (now (bits .entry)) ⌝ }
+    {
+        let plain = self.word_bits(bits.len());
+        put_words(&self.code, bits, &mut coded[0..plain]);
+        coded[plain..].fill(0);
+    }
+
+    // Writes the copies of the coded bits in the order in which they go out.
+    fn write_air(&self, bits: &[u8], air: &mut [u8])
+        requires carried { ⌜ Carried (length (now bits)) ⌝ }
+        requires bits { ⌜ All Bit (now bits) ⌝ }
+        requires room { ⌜ length (now air) ≡ copyCount (now self .copies) * totalOf (chained (C·BlockCode .code (now self .code)) (now self .copies) (M·Mapping .map)) (length (now bits)) ⌝ }
+        ensures { λ _. ⌜ now (air .exit) ≡ airOf (chained (C·BlockCode .code (now (self .entry) .code)) (now (self .entry) .copies) (M·Mapping .map)) (now (bits .entry)) ⌝ }
+    {
+        let total = self.coded_bits(bits.len());
+        let mut coded = [0u8; MAX_CODED];
+        self.write_coded(bits, &mut coded[0..total]);
+        put_copies(self.copies.count(), &coded[0..total], air);
+    }
+}
