@@ -10,3 +10,4 @@ pub mod Readings
 pub mod Hearings
 pub mod Coding
 pub mod Room
+pub mod Sending

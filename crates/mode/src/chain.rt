@@ -6,12 +6,17 @@ ghost use Rattle.std.specs.shelf.Lists.{All};
 ghost use Rattle.bits.specs.Strings.{Bit};
 ghost use Rattle.mode.specs.Modes.{Carried, plain as plainOf, total as totalOf, count as countOf, padded as paddedOf, air as airOf};
 ghost use Rattle.mode.specs.Chains.{copy-count as copyCount, chained, Copied as CopiedOf};
+use crate::carrier::Carrier;
+use crate::coder::MAX_AIR;
 use crate::coder::put_copies;
 use crate::coder::put_words;
+use crate::coder::step_through;
 use crate::copies::Copies;
 use crate::roomy::RoomyCode;
 use crate::sharing::word_count;
+use crate::fault::HearFault;
 use bits::BadCall;
+use bits::are_bits;
 use block_code::BlockCode;
 use mapping::Mapping;
 
@@ -99,5 +104,32 @@ impl<C: RoomyCode, M: Mapping> Chain<C, M> {
         let mut coded = [0u8; MAX_CODED];
         self.write_coded(bits, &mut coded[0..total]);
         put_copies(self.copies.count(), &coded[0..total], air);
+    }
+}
+
+pub impl<C: RoomyCode, M: Mapping> Carrier for Chain<C, M> as ChainCarrier {
+    ghost mode = { λ s. chained (C·BlockCode .code (s .code)) (s .copies) (M·Mapping .map) };
+
+    fn symbol_count(&self, n: usize) -> Result<usize, BadCall> {
+        if n < 2 || n > 2112 {
+            return Err(BadCall);
+        }
+        Ok(self.symbols(n))
+    }
+
+    fn send(&self, prior: u8, bits: &[u8], symbols: &mut [u8]) -> Result<usize, BadCall> {
+        let count = self.symbol_count(bits.len())?;
+        if !are_bits(bits) || usize::from(prior) >= self.mapping.order() || symbols.len() < count {
+            return Err(BadCall);
+        }
+        let n = self.copies.count() * self.coded_bits(bits.len());
+        let mut air = [0u8; MAX_AIR];
+        self.write_air(bits, &mut air[0..n]);
+        step_through(&self.mapping, prior, &air[0..n], &mut symbols[0..count]);
+        Ok(count)
+    }
+
+    fn hear(&self, list: &[u8], at: usize, bits: &mut [u8]) -> Result<usize, HearFault> {
+        Err(HearFault::Call(BadCall))
     }
 }
