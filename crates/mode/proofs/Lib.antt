@@ -11,3 +11,4 @@ pub mod Hearings
 pub mod Coding
 pub mod Room
 pub mod Sending
+pub mod Reading

@@ -4,6 +4,7 @@ pub mod chain;
 pub mod choice;
 mod coder;
 pub mod copies;
+mod decoder;
 pub mod fault;
 pub mod interleaver;
 pub mod laws;
