@@ -12,3 +12,4 @@ pub mod Coding
 pub mod Room
 pub mod Sending
 pub mod Reading
+pub mod Blocks

@@ -39,15 +39,15 @@ module _ (f : Map) (list : List ℕ) (at many : ℕ) where
 
   pub sofar-none : (bs : List ℕ) → getD list at 0 < f .q → Sofar f list at many bs 0 (getD list at 0) 0
   sofar-none bs l = record {
-      place = omega arith;
-      prior = ap (λ j. getD list j 0) (omega arith);
-      fine = λ j b a.
+    place = omega arith;
+    prior = ap (λ j. getD list j 0) (omega arith);
+    fine = λ j b a.
         let e : j ≡ at = omega (arith, a .0) in
         elim (a .1) [ inl s ↦ omega (arith, ap (λ i. getD list i 0) e) | inr u ↦ omega (arith, u .0) ];
-      known = λ j b c. let e : j ≡ at = omega arith in rw e l;
-      bits = tt;
-      leads = λ es. ap (λ j. stepped f j (getD list at 0) es) (omega arith);
-    }
+    known = λ j b c. let e : j ≡ at = omega arith in rw e l;
+    bits = tt;
+    leads = λ es. ap (λ j. stepped f j (getD list at 0) es) (omega arith);
+  }
 
   module _ (L : maps.Lawful f) (bs : List ℕ) (k p a : ℕ) (h : Sofar f list at many bs k p a) where
     pub sofar-prior : p < f .q
@@ -66,7 +66,7 @@ module _ (f : Map) (list : List ℕ) (at many : ℕ) where
         (rw e (first-amiss l (omega arith, inr (omega arith, v))), λ t. omega arith)
 
     pub sofar-more : (i s v : ℕ) (ds cs : List ℕ) → i ≡ at + 1 + k → k < many → at + 1 + many ≤ length list → s ≡ getD list i 0 → s < f .q → v ≡ f .w → Bits (f .w) ds → f .next p ds ≡ s
-      → take (a + v) cs ≡ take a bs ++ ds → Sofar f list at many cs (k + 1) s (a + v)
+        → take (a + v) cs ≡ take a bs ++ ds → Sofar f list at many cs (k + 1) s (a + v)
     sofar-more i s v ds cs e l t se sq ve b n c =
         let ss = take many (drop (at + 1) list) in
         let w = f .w in
@@ -92,14 +92,14 @@ module _ (f : Map) (list : List ℕ) (at many : ℕ) where
           ];
           bits = rw c (all-append Bit (take a bs) ds (h .bits) (b .bits));
           leads = λ es.
-            let r : many - k ≡ suc (many - (k + 1)) = omega arith in
-            let tk : take w (ds ++ es) ≡ ds = take-at ds es w (b .size) in
-            let dr : drop w (ds ++ es) ≡ es = drop-at ds es w (b .size) in
-            let z : stepped f (many - k) p (ds ++ es) ≡ s ∷ stepped f (many - (k + 1)) s es = rw (r, tk, dr, n) in
-            let g : take (k + 1) ss ≡ take k ss ++ s ∷ [] = take-more ss k 0 (omega arith) ∙ ap (λ q. take k ss ++ q ∷ []) x in
-            ap (λ us. stepped f many (getD list at 0) (us ++ es)) c ∙ ap (stepped f many (getD list at 0)) (append-assoc (take a bs) ds es) ∙ h .leads (ds ++ es)
-            ∙ ap (λ us. take k ss ++ us) z ∙ sym (append-assoc (take k ss) (s ∷ []) (stepped f (many - (k + 1)) s es))
-            ∙ ap (λ us. us ++ stepped f (many - (k + 1)) s es) (sym g);
+              let r : many - k ≡ suc (many - (k + 1)) = omega arith in
+              let tk : take w (ds ++ es) ≡ ds = take-at ds es w (b .size) in
+              let dr : drop w (ds ++ es) ≡ es = drop-at ds es w (b .size) in
+              let z : stepped f (many - k) p (ds ++ es) ≡ s ∷ stepped f (many - (k + 1)) s es = rw (r, tk, dr, n) in
+              let g : take (k + 1) ss ≡ take k ss ++ s ∷ [] = take-more ss k 0 (omega arith) ∙ ap (λ q. take k ss ++ q ∷ []) x in
+              ap (λ us. stepped f many (getD list at 0) (us ++ es)) c ∙ ap (stepped f many (getD list at 0)) (append-assoc (take a bs) ds es) ∙ h .leads (ds ++ es)
+              ∙ ap (λ us. take k ss ++ us) z ∙ sym (append-assoc (take k ss) (s ∷ []) (stepped f (many - (k + 1)) s es))
+              ∙ ap (λ us. us ++ stepped f (many - (k + 1)) s es) (sym g);
         }
 
     pub sofar-all : many ≤ k → k ≤ many → at + 1 + many ≤ length list → length bs ≡ many * f .w → Read f list at many bs

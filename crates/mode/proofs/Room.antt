@@ -4,7 +4,7 @@ use mathlib.Core.Path.{_≡_, refl, sym, ap, _∙_}
 use mathlib.Core.Logic.{_⊎_, inl, inr}
 use mathlib.Core.List.{List, _++_}
 use native.Mathlib.Omega.{arith}
-use native.Mathlib.Nat.{mul-le-mul-right, mul-div-cancel-left, mul-mod-right, sub-zero}
+use native.Mathlib.Nat.{mul-le-mul-right, mul-div-cancel-left, sub-zero}
 use borrow.Rule.Slice.PartMut.{putMid}
 use lib.ListN.{length, take, drop, replicate}
 use Rattle.std.proofs.shelf.Bits.{mul-le, mod-below}
@@ -23,6 +23,7 @@ use Rattle.mode.specs.Copying.{spread}
 use Rattle.mode.specs.Modes.{Mode, Lawful, Carried, coded, plain, pad, total, count, padded, air}
 use Rattle.mode.specs.Chains.{chained}
 use Rattle.mode.proofs.Splits.{words-room}
+use Rattle.mode.proofs.Moves.{copied-at}
 use Rattle.mode.proofs.Coding.{put-two}
 use Rattle.mode.proofs.Spoils.{length-spread}
 use Rattle.mode.proofs.Whole.{several, few-copies, wide, count-width, total-enough}
@@ -34,8 +35,9 @@ chain-lawful c Four f l k r = record { code = l; roomy = k; copies = inr (inr re
 
 words-few : (k n : ℕ) → 16 ≤ k → n ≤ 2112 → words k n ≤ 132
 words-few k n l h = elim (cases-lt 132 (words k n)) [
-    inl g ↦ let a : 133 * k ≤ words k n * k = mul-le-mul-right k g in absurd (omega (arith, words-room k n (omega arith)))
-  | inr g ↦ g ]
+  | inl g ↦ let a : 133 * k ≤ words k n * k = mul-le-mul-right k g in absurd (omega (arith, words-room k n (omega arith)))
+  | inr g ↦ g
+]
 
 module _ (m : Mode) (L : Lawful m) (n : ℕ) (h : n ≤ 2112) where
   pub parity-few : words (m .code .k) n * m .code .p ≤ 6204
@@ -77,18 +79,11 @@ count-is m n s t w a b c = rw (a, b, c)
 
 -- the words with the zeros behind them
 pub padded-is : (m : Mode) (xs ws os zs : List ℕ) (a : ℕ) → ws ≡ coded (m .code) (unsents (m .code .k) (length xs)) xs → length ws ≡ a → a ≡ plain m (length xs) → length (ws ++ os) ≡ total m (length xs)
-  → zs ≡ replicate (length (take (length (ws ++ os) - a) (drop a (ws ++ os)))) 0 → putMid a (length (ws ++ os) - a) (ws ++ os) zs ≡ padded m xs
+    → zs ≡ replicate (length (take (length (ws ++ os) - a) (drop a (ws ++ os)))) 0 → putMid a (length (ws ++ os) - a) (ws ++ os) zs ≡ padded m xs
 unfolding total padded
 padded-is m xs ws os zs a e l f n z =
     let k : length (take (length (ws ++ os) - a) (drop a (ws ++ os))) ≡ pad m (length xs) = simp (length-take, length-drop) (omega arith) in
     put-two a ws os zs l ∙ ap (λ us. us ++ zs) e ∙ ap (λ us. coded (m .code) (unsents (m .code .k) (length xs)) xs ++ us) (z ∙ ap (λ j. replicate j 0) k)
-
-pub copied-at : (s t : ℕ) → 0 < s → (t ≡ 1 → ⊥) → Copied s (s * t)
-copied-at s t p h = record {
-    several = p;
-    whole = mul-mod-right s t;
-    enough = λ e. h (sym (mul-div-cancel-left t p) ∙ e);
-  }
 
 -- the front of a list, as the code takes it
 pub front-is : {A : Type 0} (xs ys : List A) (n : ℕ) → length xs ≡ n → take (n - 0) (xs ++ ys) ≡ xs
@@ -106,11 +101,11 @@ pub record Copyable (s : ℕ) (ws us : List ℕ) : Type 0 where
 
 pub copyable : (m : Mode) → Lawful m → (n s t : ℕ) (ws us : List ℕ) → Carried n → s ≡ m .copies → t ≡ total m n → length ws ≡ t → length us ≡ m .copies * total m n → Copyable s ws us
 copyable m L n s t ws us k e f g h = record {
-    several = rw e (several m L);
-    enough = λ o. total-enough m L n (k .low) (omega arith);
-    room = rw (e, g ∙ f) h;
-    few = omega (arith, air-few m L n (k .high));
-  }
+  several = rw e (several m L);
+  enough = λ o. total-enough m L n (k .low) (omega arith);
+  room = rw (e, g ∙ f) h;
+  few = omega (arith, air-few m L n (k .high));
+}
 
 pub movable-front : {A : Type 0} (xs ys zs : List A) (n s t : ℕ) → length xs ≡ n → n ≡ s * t → 0 < s → (t ≡ 1 → ⊥) → length zs ≡ n → Movable s (take (n - 0) (xs ++ ys)) zs
 movable-front xs ys zs n s t e f p h l = rw (front-is xs ys n e) (rw (e ∙ f) (copied-at s t p h), l ∙ sym e)

@@ -14,8 +14,7 @@ use Rattle.mode.proofs.Room.{front-is}
 use Rattle.mode.proofs.Whole.{count-width, air-bits}
 
 module _ (m : Mode) (L : Lawful m) (xs ys : List ℕ) (s t : ℕ) (k : Carried (length xs)) (b : All Bit xs)
-  (se : s ≡ m .copies) (te : t ≡ total m (length xs)) (ae : ys ≡ air m xs) where
-
+    (se : s ≡ m .copies) (te : t ≡ total m (length xs)) (ae : ys ≡ air m xs) where
   whole : Bits (m .copies * total m (length xs)) (air m xs)
   whole = air-bits m L (length xs) xs (k .low) (record { size = refl; bits = b })
 
@@ -35,5 +34,5 @@ module _ (m : Mode) (L : Lawful m) (xs ys : List ℕ) (s t : ℕ) (k : Carried (
     unfolding sent
     sent-front p us e =
         let f : us ≡ stepped (m .map) (count m (length xs)) p (air m xs) =
-          e ∙ ap (λ j. stepped (m .map) j p (take (s * t - 0) (ys ++ rest))) places ∙ ap (stepped (m .map) (count m (length xs)) p) (front-is ys rest (s * t) air-sized ∙ ae) in
+        e ∙ ap (λ j. stepped (m .map) j p (take (s * t - 0) (ys ++ rest))) places ∙ ap (stepped (m .map) (count m (length xs)) p) (front-is ys rest (s * t) air-sized ∙ ae) in
         rw sub-zero (ap (λ vs. vs ++ drop c os) f)

@@ -56,7 +56,7 @@ Faulty m list at n (Step i) = Misread (m .map) list at (count m n) (Step i)
 Faulty m list at n (Word i) =
     (bs : List ℕ) × Read (m .map) list at (count m n) bs
     × ((j : ℕ) × First (Lost (m .code) (m .copies) (unsents (m .code .k) n) (copies-of m n bs)) (words (m .code .k) n) j
-       × First (Holds m at n j) (at + 1 + count m n) i)
+    × First (Holds m at n j) (at + 1 + count m n) i)
 
 -- Hearing as many bits as the buffer has places, after the symbol at index `at`: if the list is within reach of bits,
 -- these are in the buffer, and the answer is how many of their words' bits are spoilt. If a part is faulty, the answer

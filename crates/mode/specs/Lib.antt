@@ -1,6 +1,7 @@
 pub mod Shares
 pub mod Orders
 pub mod Copying
+pub mod Heard
 pub mod Modes
 pub mod Parts
 pub mod Faults

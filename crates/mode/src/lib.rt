@@ -1,4 +1,5 @@
 // Modes: a block code, a count of copies and a mapping, which carry bits as symbols.
+mod air_bit;
 pub mod carrier;
 pub mod chain;
 pub mod choice;

@@ -42,7 +42,7 @@ loop-k-again g c =
     sofar-more (g .M·Mapping .map) (c .args .list .now) (c .args .at) (c .args .count) (g .M·Mapping·met .lawful) (c .loop-k .bits) (c .loop-k .k) (c .loop-k .prior) (c .loop-k .from) (c .loop-k .inv) (c .args .at + 1 + c .loop-k .k) (getD (c .args .list .now) (c .args .at + 1 + c .loop-k .k) 0) (c .width-w .result) (c .read .last .bits) _ refl (c .loop-k-test .taken) (c .pre .there) refl
     (h .0 .to) (c .width-w .ensures) (h .1) (h .2)
     (take-putMid (c .loop-k .from) (c .loop-k .from + c .width-w .result - c .loop-k .from) (c .loop-k .bits) (c .read .last .bits) (c .loop-k .from + c .width-w .result)
-      (omega (arith, h .1 .size, c .width-w .ensures)) (omega (arith, there g (need.at·loop-k-again g c .In-loop-k))))
+    (omega (arith, h .1 .size, c .width-w .ensures)) (omega (arith, there g (need.at·loop-k-again g c .In-loop-k))))
 
 pub returns : need.returns
 returns g c =

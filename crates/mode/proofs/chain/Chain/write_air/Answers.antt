@@ -30,8 +30,8 @@ part-put-copies-end g c = simp length-append (omega (arith, coded-sized g (need.
 pub put-copies-requires : need.put-copies-requires
 put-copies-requires g c κs =
     let k = copyable _ (lawful g (need.at·put-copies-requires g c .After-coded-bits-total)) (length (c .args .bits .now)) (c .count .result) (c .coded-bits-total .result) _ (c .args .air .now)
-      (c .pre .carried) (c .count .ensures) (c .coded-bits-total .ensures)
-      (front-length (c .write-coded .last .coded) _ (c .coded-bits-total .result) (coded-sized g (need.at·put-copies-requires g c .After-write-coded))) (c .pre .room) in
+    (c .pre .carried) (c .count .ensures) (c .coded-bits-total .ensures)
+    (front-length (c .write-coded .last .coded) _ (c .coded-bits-total .result) (coded-sized g (need.at·put-copies-requires g c .After-write-coded))) (c .pre .room) in
     record { several = k .several; enough = k .enough; room = k .room; few = k .few }
 
 pub returns : need.returns

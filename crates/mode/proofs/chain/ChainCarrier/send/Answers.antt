@@ -36,22 +36,23 @@ part-step-through-end g c = simp length-append (omega (arith, sized g (need.at·
 
 pub step-through-requires : need.step-through-requires
 step-through-requires g c κs = record {
-    known = omega (arith, c .if-from-order .left, c .from .ensures, c .order .ensures);
-    bits =
+  known = omega (arith, c .if-from-order .left, c .from .ensures, c .order .ensures);
+  bits =
       symbols-asked (chained (g .C·BlockCode .code (c .args .self .now .code)) (c .args .self .now .copies) (g .M·Mapping .map)) (lawful g (need.at·step-through-requires g c .After-coded-bits)) (c .args .bits .now) (c .write-air .last .air) (c .count .result) (c .coded-bits .result)
       (c .in-Continue-count .ensures tt .0) (c .are-bits .ensures .0 (c .if-not-are-bits .left)) (c .count .ensures) (c .coded-bits .ensures) (c .write-air .ensures)
       _ (c .args .symbols .now) (c .in-Continue-count .count) (c .in-Continue-count .ensures tt .1) (c .if-symbols-count .left);
-  }
+}
 
 pub returns : need.returns
-returns g c =
-    (record {
-      carried = c .in-Continue-count .ensures tt .0;
-      bits = c .are-bits .ensures .0 (c .if-not-are-bits .left);
-      known = omega (arith, c .if-from-order .left, c .from .ensures, c .order .ensures);
-      room = omega (arith, c .in-Continue-count .ensures tt .1, c .if-symbols-count .left);
-    },
-    c .in-Continue-count .ensures tt .1,
-    sent-front (chained (g .C·BlockCode .code (c .args .self .now .code)) (c .args .self .now .copies) (g .M·Mapping .map)) (lawful g (need.at·returns g c .After-coded-bits)) (c .args .bits .now) (c .write-air .last .air) (c .count .result) (c .coded-bits .result)
-    (c .in-Continue-count .ensures tt .0) (c .are-bits .ensures .0 (c .if-not-are-bits .left)) (c .count .ensures) (c .coded-bits .ensures) (c .write-air .ensures)
-    _ (c .args .symbols .now) (c .in-Continue-count .count) (c .in-Continue-count .ensures tt .1) (c .if-symbols-count .left) (c .args .prior) (c .step-through .last .output) (c .step-through .ensures))
+returns g c = (
+  record {
+    carried = c .in-Continue-count .ensures tt .0;
+    bits = c .are-bits .ensures .0 (c .if-not-are-bits .left);
+    known = omega (arith, c .if-from-order .left, c .from .ensures, c .order .ensures);
+    room = omega (arith, c .in-Continue-count .ensures tt .1, c .if-symbols-count .left);
+  },
+  c .in-Continue-count .ensures tt .1,
+  sent-front (chained (g .C·BlockCode .code (c .args .self .now .code)) (c .args .self .now .copies) (g .M·Mapping .map)) (lawful g (need.at·returns g c .After-coded-bits)) (c .args .bits .now) (c .write-air .last .air) (c .count .result) (c .coded-bits .result)
+      (c .in-Continue-count .ensures tt .0) (c .are-bits .ensures .0 (c .if-not-are-bits .left)) (c .count .ensures) (c .coded-bits .ensures) (c .write-air .ensures)
+      _ (c .args .symbols .now) (c .in-Continue-count .count) (c .in-Continue-count .ensures tt .1) (c .if-symbols-count .left) (c .args .prior) (c .step-through .last .output) (c .step-through .ensures),
+)
