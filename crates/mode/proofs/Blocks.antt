@@ -139,7 +139,7 @@ map-map-counting : {A B : Type 0} (h : A → B) (f : ℕ → A) (g : ℕ → B) 
 map-map-counting h f g e [] = refl
 map-map-counting h f g e (i ∷ is) = let x = e i in let y = map-map-counting h f g e is in cc
 
-getD-map-all : {A B : Type 0} (h : A → B) (xs : List A) (i : ℕ) (d : A) → h (getD xs i d) ≡ getD (map h xs) i (h d)
+pub getD-map-all : {A B : Type 0} (h : A → B) (xs : List A) (i : ℕ) (d : A) → h (getD xs i d) ≡ getD (map h xs) i (h d)
 getD-map-all h [] i d = refl
 getD-map-all h (x ∷ xs) zero d = refl
 getD-map-all h (x ∷ xs) (suc i) d = getD-map-all h xs i d

@@ -13,3 +13,4 @@ pub mod Room
 pub mod Sending
 pub mod Reading
 pub mod Blocks
+pub mod Deciding

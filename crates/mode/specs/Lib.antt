@@ -4,6 +4,7 @@ pub mod Copying
 pub mod Heard
 pub mod Modes
 pub mod Parts
+pub mod Hearing
 pub mod Faults
 pub mod Answers
 pub mod Laws

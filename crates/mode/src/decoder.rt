@@ -3,7 +3,10 @@ ghost use mathlib.Core.Path.{_≡_};
 ghost use Prim.Native.Nat.{_+_, _*_, _/_, _<_, _≤_};
 ghost use lib.ListN.{length};
 ghost use Rattle.mode.specs.Orders.{Copied, deinterleaved};
-ghost use Rattle.mode.specs.Heard.{labelled};
+ghost use Rattle.std.specs.shelf.Lists.{All};
+ghost use Rattle.bits.specs.Strings.{Bit};
+ghost use Rattle.mode.specs.Copying.{differing as differingOf, majority, decided, spoilt as spoiltOf};
+ghost use Rattle.mode.specs.Heard.{labelled, bits-of as bitsOf, Lowest};
 ghost use Rattle.mode.specs.Answers.{ReadsPart};
 use crate::air_bit::AirBit;
 use crate::fault::PartFault;
@@ -95,4 +98,79 @@ pub(crate) fn take_copies(copies: usize, w: usize, bits: &[u8], output: &mut [Ai
         let to = from + pair;
         take_block(copies, w, from, &bits[from..to], &mut output[from..to]);
     }
+}
+
+// How many of the copies differ from the bit.
+fn differing(bit: u8, copies: &[AirBit]) -> usize
+    ensures { λ r. ⌜ r ≡ differingOf bit (bitsOf (now (copies .entry))) ⌝ }
+{
+    let mut n = 0;
+    for c in copies {
+        if c.bit != bit {
+            n += 1;
+        }
+    }
+    n
+}
+
+// The bit that most of the copies say. A tie goes to the first copy.
+fn decide(copies: &[AirBit]) -> u8
+    requires some { ⌜ 0 < length (now copies) ⌝ }
+    requires bits { ⌜ All Bit (bitsOf (now copies)) ⌝ }
+    ensures { λ r. ⌜ r ≡ majority (bitsOf (now (copies .entry))) ⌝ }
+{
+    let first = copies[0].bit;
+    let against = differing(first, copies);
+    if against > copies.len() - against {
+        1 - first
+    } else {
+        first
+    }
+}
+
+// Decides the bits of a word.
+fn decide_word(copies: usize, heard: &[AirBit], word: &mut [u8])
+    requires several { ⌜ 0 < copies ⌝ }
+    requires bits { ⌜ All Bit (bitsOf (now heard)) ⌝ }
+    requires room { ⌜ length (now heard) ≡ copies * length (now word) ⌝ }
+    ensures { λ _. ⌜ now (word .exit) ≡ decided copies (length (now (word .entry))) (bitsOf (now (heard .entry))) ⌝ }
+{
+    let mut at = 0;
+    for i in 0..word.len() {
+        let end = at + copies;
+        word[i] = decide(&heard[at..end]);
+        at = end;
+    }
+}
+
+// How many bits of the word are spoilt: half or more of their copies differ from them.
+fn spoilt(copies: usize, word: &[u8], heard: &[AirBit]) -> usize
+    requires { ⌜ length (now heard) ≡ copies * length (now word) ⌝ }
+    ensures { λ r. ⌜ r ≡ spoiltOf copies (now (word .entry)) (bitsOf (now (heard .entry))) ⌝ }
+{
+    let mut n = 0;
+    let mut at = 0;
+    for b in word {
+        let end = at + copies;
+        let against = differing(*b, &heard[at..end]);
+        if against >= copies - against {
+            n += 1;
+        }
+        at = end;
+    }
+    n
+}
+
+// The lowest symbol that carried one of the bits.
+fn lowest(heard: &[AirBit]) -> u16
+    requires { ⌜ 0 < length (now heard) ⌝ }
+    ensures { λ r. ⌜ Lowest (now (heard .entry)) r ⌝ }
+{
+    let mut low = heard[0].symbol;
+    for h in heard {
+        if h.symbol < low {
+            low = h.symbol;
+        }
+    }
+    low
 }
