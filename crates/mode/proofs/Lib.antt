@@ -14,3 +14,4 @@ pub mod Sending
 pub mod Reading
 pub mod Blocks
 pub mod Deciding
+pub mod Finding
