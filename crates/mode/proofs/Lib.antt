@@ -15,3 +15,4 @@ pub mod Reading
 pub mod Blocks
 pub mod Deciding
 pub mod Finding
+pub mod Places

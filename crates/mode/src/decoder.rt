@@ -10,10 +10,11 @@ ghost use Rattle.mode.specs.Heard.{labelled, bits-of as bitsOf, Lowest};
 ghost use Rattle.mode.specs.Shares.{unsents};
 ghost use Rattle.mode.specs.Modes.{Carried};
 ghost use Rattle.mode.specs.Parts.{sized};
-ghost use Rattle.mode.specs.Hearing.{HearsWord, HearsMessage, HearsWords};
+ghost use Rattle.mode.specs.Hearing.{HearsCopies, HearsWord, HearsMessage, HearsWords};
 ghost use Rattle.mode.specs.Answers.{ReadsPart};
 ghost use Rattle.block_code.specs.Codes.{shortened};
 use crate::air_bit::AirBit;
+use crate::coder::MAX_AIR;
 use crate::fault::PartFault;
 use crate::interleaver::deinterleave;
 use crate::sharing::share;
@@ -24,7 +25,7 @@ use block_code::ShortenedCode;
 use mapping::Mapping;
 
 // Reads the bits of so many symbols after index `at` of the list, or tells the first fault.
-pub(crate) fn read_part<M: Mapping>(
+fn read_part<M: Mapping>(
     mapping: &M,
     list: &[u8],
     at: usize,
@@ -91,7 +92,7 @@ fn take_block(copies: usize, w: usize, from: usize, bits: &[u8], output: &mut [A
 }
 
 // Labels the bits of a part, and puts the copies of each bit in a row, block by block.
-pub(crate) fn take_copies(copies: usize, w: usize, bits: &[u8], output: &mut [AirBit])
+fn take_copies(copies: usize, w: usize, bits: &[u8], output: &mut [AirBit])
     requires copied { ⌜ Copied copies (length (now bits)) ⌝ }
     requires small { ⌜ copies ≤ 4 ⌝ }
     requires some { ⌜ 0 < w ⌝ }
@@ -108,6 +109,22 @@ pub(crate) fn take_copies(copies: usize, w: usize, bits: &[u8], output: &mut [Ai
         let to = from + pair;
         take_block(copies, w, from, &bits[from..to], &mut output[from..to]);
     }
+}
+
+// Reads so many symbols after index `at` of the list, and puts the copies of each bit in a row.
+pub(crate) fn hear_copies<M: Mapping>(mapping: &M, copies: usize, list: &[u8], at: usize, count: usize, heard: &mut [AirBit]) -> Result<(), PartFault>
+    requires there { ⌜ at + 1 + count ≤ length (now list) ⌝ }
+    requires copied { ⌜ Copied copies (length (now heard)) ⌝ }
+    requires small { ⌜ copies ≤ 4 ⌝ }
+    requires few { ⌜ length (now heard) ≤ 33272 ⌝ }
+    requires room { ⌜ length (now heard) ≡ count * M·Mapping .map .w ⌝ }
+    ensures { λ r. ⌜ HearsCopies (M·Mapping .map) copies (now (list .entry)) at count (now (heard .exit)) r ⌝ }
+{
+    let n = heard.len();
+    let mut air = [0u8; MAX_AIR];
+    read_part(mapping, list, at, count, &mut air[0..n])?;
+    take_copies(copies, mapping.width(), &air[0..n], heard);
+    Ok(())
 }
 
 // How many of the copies differ from the bit.
