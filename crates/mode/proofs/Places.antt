@@ -1,27 +1,31 @@
 -- Where in the list a word's copies stand, and what hearing the words of a part says of it.
 use Prim.Native.Nat.{ℕ, _+_, _-_, _*_, _/_, _%_, _<_, _≤_}
 use mathlib.Core.Path.{_≡_, refl, sym, ap, subst, _∙_}
-use mathlib.Core.List.{List}
+use mathlib.Core.List.{List, _++_}
 use native.Mathlib.Omega.{arith}
-use native.Mathlib.Nat.{mul-le-mul-left, mul-le-mul-right}
+use native.Mathlib.Nat.{mul-le-mul-left, mul-le-mul-right, mul-div-cancel-left, sub-zero}
 use lib.ListN.{length, take, drop, getD}
 use Rattle.std.specs.declared.result.Result.{Result}
 use Rattle.std.specs.declared.result.Result.the-variants.{Ok, Err}
 use Rattle.std.proofs.shelf.Bits.{div-below, le-div, div-add-mod', mod-below}
 use Rattle.std.proofs.shelf.Lists.{take-map, drop-map, getD-take, getD-drop, length-take-le, length-drop}
-use Rattle.bits.specs.Strings.{Bits}
+use Rattle.std.specs.shelf.Lists.{All}
+use Rattle.bits.specs.Strings.{Bit, Bits}
 use Rattle.mode.specs.declared.air_bit.AirBit.{AirBit}
 use Rattle.mode.specs.declared.fault.PartFault.the-variants.{Word}
 use Rattle.mode.specs.Shares.{words, unsent, unsents}
-use Rattle.mode.specs.Orders.{forth, back, deinterleaved}
+use Rattle.mode.specs.Orders.{Copied, forth, back, deinterleaved}
 use Rattle.mode.specs.Heard.{labelled, bits-of, symbols-of, Lowest}
-use Rattle.mode.specs.Modes.{Mode, Lawful, total, count}
+use Rattle.mode.specs.Modes.{Mode, Lawful, Carried, total, count}
 use Rattle.mode.specs.Parts.{First, There, Read, Reach, Lost, copies-of, sized, start, bit-at, Holds}
 use Rattle.mode.specs.Hearing.{HearsWords}
 use Rattle.mode.specs.Answers.{Faulty}
 use Rattle.mode.proofs.Turns.{forth-undoes, back-undoes}
+use Rattle.mode.proofs.Strings.{bits-at}
+use Rattle.mode.proofs.Moves.{copied-at}
+use Rattle.mode.proofs.Room.{air-few, front-is}
 use Rattle.mode.proofs.Splits.{length-unsents, getD-unsents}
-use Rattle.mode.proofs.Whole.{several, wide, count-width, total-enough, copies-there}
+use Rattle.mode.proofs.Whole.{several, few-copies, wide, count-width, total-enough, copies-bits, copies-there}
 use Rattle.mode.proofs.Readings.{sized-more, sized-take}
 use Rattle.mode.proofs.Blocks.{bits-deinterleaved, symbol-deinterleaved, length-deinterleaved, length-labelled}
 
@@ -108,10 +112,24 @@ module _ (m : Mode) (L : Lawful m) (list : List ℕ) (at n : ℕ) (t : There m l
   pub read-size : length bs ≡ m .copies * total m n
   read-size = r .bits .size ∙ count-width m L n
 
+  pub heard-is : (hs : List AirBit) (s : ℕ) → s ≡ m .copies → hs ≡ deinterleaved s (length bs / s) (labelled (m .map .w) 0 bs) → hs ≡ deinterleaved (m .copies) (total m n) (labelled (m .map .w) 0 bs)
+  heard-is hs s e f =
+      let k : length bs / m .copies ≡ total m n = ap (λ x. x / m .copies) read-size ∙ mul-div-cancel-left (total m n) (several m L) in
+      f ∙ ap (λ x. deinterleaved x (length bs / x) (labelled (m .map .w) 0 bs)) e ∙ ap (λ x. deinterleaved (m .copies) x (labelled (m .map .w) 0 bs)) k
+
   -- what hearing the words says
   module _ (hs : List AirBit) (e : hs ≡ deinterleaved (m .copies) (total m n) (labelled (m .map .w) 0 bs)) where
     heard-as : bits-of hs ≡ copies-of m n bs
     heard-as = ap bits-of e ∙ bits-deinterleaved (m .copies) (total m n) (m .map .w) bs
+
+    pub heard-long : length hs ≡ m .copies * total m n
+    heard-long = ap length e ∙ length-deinterleaved (m .copies) (total m n) (labelled (m .map .w) 0 bs) ∙ length-labelled (m .map .w) 0 bs ∙ read-size
+
+    pub heard-bits : All Bit (bits-of hs)
+    heard-bits = rw heard-as (copies-bits m L n bs (t .carried .low) (bits-at _ _ bs (count-width m L n) (r .bits)) .bits)
+
+    pub heard-room : m .copies * sized (m .code) (unsents (m .code .k) n) ≤ length hs
+    heard-room = omega (arith, heard-long, copies-there m L n)
 
     pub heard-reach : (after : List ℕ) (c : ℕ) → HearsWords (m .code) (m .copies) hs n after (Ok c) → Reach m list at n after c
     heard-reach after c h = record {
@@ -127,3 +145,40 @@ module _ (m : Mode) (L : Lawful m) (list : List ℕ) (at n : ℕ) (t : There m l
     heard-lost after c h =
         let f : First (Lost (m .code) (m .copies) (unsents (m .code .k) n) (copies-of m n bs)) (words (m .code .k) n) (h .0) = rw heard-as at (h .1) in
         (bs, r, (h .0, f, lowest-holds m L at n (h .0) (t .carried .low) (h .1 .below) bs read-size c (rw e at (h .2))))
+
+-- the places that a part takes
+pub part-width : (m : Mode) → Lawful m → (n c w : ℕ) → c ≡ count m n → w ≡ m .map .w → c * w ≡ m .copies * total m n
+part-width m L n c w e f = ap (λ x. x * w) e ∙ ap (λ x. count m n * x) f ∙ count-width m L n
+
+pub length-front : {A : Type 0} (xs : List A) (n k : ℕ) → length xs ≡ k → n ≤ k → length (take (n - 0) xs) ≡ n
+length-front xs n k e l = rw sub-zero (length-take-le n xs (omega arith))
+
+-- what the copies of a part ask for
+pub record Heardable (s : ℕ) (hs : List AirBit) (n : ℕ) : Type 0 where
+  pub copied : Copied s (length hs)
+  pub small : s ≤ 4
+  pub few : length hs ≤ 33272
+  pub room : length hs ≡ n
+
+pub heardable : (m : Mode) → Lawful m → (n s k : ℕ) (hs : List AirBit) → Carried n → s ≡ m .copies → k ≡ m .copies * total m n → length hs ≡ k → Heardable s hs k
+heardable m L n s k hs o e f g = record {
+    copied = rw (e, g ∙ f) (copied-at (m .copies) (total m n) (several m L) (total-enough m L n (o .low)));
+    small = omega (arith, few-copies m L);
+    few = omega (arith, air-few m L n (o .high));
+    room = g;
+  }
+
+-- the same part, where its count of bits is held as the code has it
+pub there-at : (m : Mode) (list : List ℕ) (at n k : ℕ) → k ≡ n → There m list at n → There m list at k
+there-at m list at n k e t = rw e t
+
+pub count-at : (m : Mode) (n k c : ℕ) → k ≡ n → c ≡ count m n → c ≡ count m k
+count-at m n k c e f = rw e f
+
+pub reach-long : (m : Mode) (list : List ℕ) (at n k : ℕ) (xs : List ℕ) (c : ℕ) → k ≡ n → Reach m list at k xs c → length xs ≡ n
+reach-long m list at n k xs c e r = r .valid .size ∙ e
+
+pub reach-at : (m : Mode) (list : List ℕ) (at n k : ℕ) (xs rest zs : List ℕ) (c : ℕ) → k ≡ n → Reach m list at k xs c → zs ≡ take (n - 0) (xs ++ rest) → Reach m list at n zs c
+reach-at m list at n k xs rest zs c e r f =
+    let q : zs ≡ xs = f ∙ front-is xs rest n (reach-long m list at n k xs c e r) in
+    rw (q, ← e) r

@@ -115,17 +115,16 @@ impl<C: RoomyCode, M: Mapping> Chain<C, M> {
         put_copies(self.copies.count(), &coded[0..total], air);
     }
 
-    // Hears the bits of a part, which has so many symbols after index `at` of the list.
-    fn hear_part(&self, list: &[u8], at: usize, count: usize, bits: &mut [u8]) -> Result<usize, PartFault>
+    // Hears the bits of a part, which has so many symbols after index `at` of the list, by way of their copies.
+    fn hear_part(&self, list: &[u8], at: usize, count: usize, heard: &mut [AirBit], bits: &mut [u8]) -> Result<usize, PartFault>
         requires there { ⌜ There (chained (C·BlockCode .code (now self .code)) (now self .copies) (M·Mapping .map)) (now list) at (length (now bits)) ⌝ }
         requires symbols { ⌜ count ≡ countOf (chained (C·BlockCode .code (now self .code)) (now self .copies) (M·Mapping .map)) (length (now bits)) ⌝ }
+        requires room { ⌜ length (now heard) ≡ count * M·Mapping .map .w ⌝ }
         ensures { λ r. ⌜ HearsPart (chained (C·BlockCode .code (now (self .entry) .code)) (now (self .entry) .copies) (M·Mapping .map)) (now (list .entry)) at (length (now (bits .entry))) (now (bits .exit)) r ⌝ }
     {
         let copies = self.copies.count();
-        let n = count * self.mapping.width();
-        let mut heard = [AirBit { bit: 0, symbol: 0 }; MAX_AIR];
-        hear_copies(&self.mapping, copies, list, at, count, &mut heard[0..n])?;
-        match hear_words(&self.code, copies, &heard[0..n], bits) {
+        hear_copies(&self.mapping, copies, list, at, count, heard)?;
+        match hear_words(&self.code, copies, heard, bits) {
             Ok(spoilt) => Ok(spoilt),
             Err(symbol) => Err(PartFault::Word(at + 1 + usize::from(symbol))),
         }
@@ -160,8 +159,10 @@ pub impl<C: RoomyCode, M: Mapping> Carrier for Chain<C, M> as ChainCarrier {
         if at >= list.len() || list.len() - at - 1 < count {
             return Err(HearFault::Call(BadCall));
         }
+        let places = count * self.mapping.width();
+        let mut heard = [AirBit { bit: 0, symbol: 0 }; MAX_AIR];
         let mut message = [0u8; MAX_BITS];
-        let spoilt = self.hear_part(list, at, count, &mut message[0..n])?;
+        let spoilt = self.hear_part(list, at, count, &mut heard[0..places], &mut message[0..n])?;
         bits.copy_from_slice(&message[0..n]);
         Ok(spoilt)
     }
