@@ -14,3 +14,5 @@ pub mod Sending
 pub mod Reading
 pub mod Blocks
 pub mod Deciding
+pub mod Finding
+pub mod Places

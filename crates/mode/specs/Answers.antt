@@ -58,6 +58,11 @@ Faulty m list at n (Word i) =
     × ((j : ℕ) × First (Lost (m .code) (m .copies) (unsents (m .code .k) n) (copies-of m n bs)) (words (m .code .k) n) j
     × First (Holds m at n j) (at + 1 + count m n) i)
 
+-- Hearing a part that is there leaves its bits, or tells what is at fault.
+abbrev pub HearsPart : Mode → List ℕ → ℕ → ℕ → List ℕ → Result ℕ PartFault → Type 0
+HearsPart m list at n after (Ok c) = Reach m list at n after c
+HearsPart m list at n after (Err f) = Faulty m list at n f
+
 -- Hearing as many bits as the buffer has places, after the symbol at index `at`: if the list is within reach of bits,
 -- these are in the buffer, and the answer is how many of their words' bits are spoilt. If a part is faulty, the answer
 -- is the fault, and the buffer stays. A call without such a part is refused, and the buffer stays.

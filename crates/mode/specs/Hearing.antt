@@ -1,19 +1,23 @@
 -- What hearing leaves of one word, and of all words of a part.
 use mathlib.Core.Path.{_≡_}
 use mathlib.Core.List.{List}
-use Prim.Native.Nat.{ℕ, _+_, _-_, _*_, _<_, _≤_}
-use lib.ListN.{take, drop}
+use Prim.Native.Nat.{ℕ, _+_, _-_, _*_, _/_, _<_, _≤_}
+use lib.ListN.{length, take, drop}
 use Rattle.std.specs.declared.option.Option.{Option}
 use Rattle.std.specs.declared.option.Option.the-variants.{Some, None}
 use Rattle.std.specs.declared.result.Result.{Result}
 use Rattle.std.specs.declared.result.Result.the-variants.{Ok, Err}
 use Rattle.bits.specs.Strings.{Bits}
 use Rattle.block_code.specs.Codes.{Code, word, shortened}
+use Rattle.mapping.specs.Maps.{Map}
+use Rattle.mode.specs.declared.fault.PartFault.{PartFault}
 use Rattle.mode.specs.declared.air_bit.AirBit.{AirBit}
 use Rattle.mode.specs.Shares.{words, unsent, unsents}
 use Rattle.mode.specs.Copying.{spoilt}
-use Rattle.mode.specs.Heard.{bits-of, Lowest}
-use Rattle.mode.specs.Parts.{First, Within, spoilt-all, Lost, sized}
+use Rattle.mode.specs.Orders.{deinterleaved}
+use Rattle.mode.specs.Heard.{labelled, bits-of, Lowest}
+use Rattle.mode.specs.Parts.{First, Read, Within, spoilt-all, Lost, sized}
+use Rattle.mode.specs.Answers.{Misread}
 
 -- the word of the message x has n spoilt bits, at most t, where s copies of each bit were heard as es
 pub record NearWord (c : Code) (s : ℕ) (es x : List ℕ) (n : ℕ) : Type 0 where
@@ -43,3 +47,9 @@ HearsWords c s hs n after (Ok r) =
 HearsWords c s hs n after (Err r) =
     (j : ℕ) × First (Lost c s (unsents (c .k) n) (bits-of hs)) (words (c .k) n) j
     × Lowest (take (s * (c .k - unsent (c .k) n j + c .p)) (drop (s * sized c (take j (unsents (c .k) n))) hs)) r
+
+-- the copies of the bits that so many symbols after index `at` carry, or what cannot be read
+abbrev pub HearsCopies : Map → ℕ → List ℕ → ℕ → ℕ → List AirBit → Result (Unit {0}) PartFault → Type 0
+HearsCopies f s list at many after (Ok u) =
+    (bs : List ℕ) × Read f list at many bs × (after ≡ deinterleaved s (length bs / s) (labelled (f .w) 0 bs))
+HearsCopies f s list at many after (Err e) = Misread f list at many e

@@ -4,9 +4,9 @@ pub mod Copying
 pub mod Heard
 pub mod Modes
 pub mod Parts
-pub mod Hearing
 pub mod Faults
 pub mod Answers
+pub mod Hearing
 pub mod Laws
 pub mod Examples
 pub mod Chains
