@@ -11,6 +11,7 @@ use mode::carrier::Carrier;
 pub trait RadioPlan: Copy {
     // what carries headers and payloads
     type Mode: Carrier;
+
     type Form: HeaderForm;
 
     ghost plan: { Self → Plan };
