@@ -27,11 +27,11 @@ use Rattle.delivery.specs.Delivery.{SentReaches}
 
 -- ---- the last symbol
 
-last-at : (p : ℕ) (ss ts : List ℕ) → getD (p ∷ (ss ++ ts)) (length ss) 0 ≡ last-of p ss
+pub last-at : (p : ℕ) (ss ts : List ℕ) → getD (p ∷ (ss ++ ts)) (length ss) 0 ≡ last-of p ss
 last-at p [] ts = refl
 last-at p (s ∷ ss) ts = last-at s ss ts
 
-last-below : (q p : ℕ) (ss : List ℕ) → p < q → All (λ s. s < q) ss → last-of p ss < q
+pub last-below : (q p : ℕ) (ss : List ℕ) → p < q → All (λ s. s < q) ss → last-of p ss < q
 last-below q p [] h a = h
 last-below q p (s ∷ ss) h a = last-below q s ss (a .0) (a .1)
 

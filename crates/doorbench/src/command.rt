@@ -1,3 +1,7 @@
+use super::symbols::Kind;
+use super::symbols::mapping_named;
+use super::symbols::symbol_bits;
+use frame::Header;
 use std::fmt;
 
 // What a line asks for.
@@ -10,6 +14,11 @@ pub enum Command {
     Spoil(usize),
     Correct,
     Full,
+    Step(Kind, u8, &'static [u8]),
+    Read(Kind, u8, u8),
+    Write(Header),
+    SpoilHeader(usize),
+    ReadHeader,
 }
 
 // Why a line cannot be read.
@@ -17,6 +26,8 @@ pub enum Command {
 pub enum Unclear {
     Unknown,
     NoNumber,
+    NoMapping,
+    NoBits,
     TooMuch,
 }
 
@@ -25,6 +36,8 @@ pub impl fmt::Display for Unclear as UnclearDisplay {
         match self {
             Unclear::Unknown => f.write_str("no such command"),
             Unclear::NoNumber => f.write_str("a number is missing or cannot be read"),
+            Unclear::NoMapping => f.write_str("the mappings are dbpsk, dqpsk, d8psk and gmsk"),
+            Unclear::NoBits => f.write_str("the bits of a symbol are one to three digits 0 or 1"),
             Unclear::TooMuch => f.write_str("there is more on the line than the command takes"),
         }
     }
@@ -40,6 +53,27 @@ fn number(word: Option<&str>) -> Result<u32, Unclear> {
     }
 }
 
+fn byte(word: Option<&str>) -> Result<u8, Unclear> {
+    match u8::try_from(number(word)?) {
+        Ok(n) => Ok(n),
+        Err(_) => Err(Unclear::NoNumber),
+    }
+}
+
+fn mapping(word: Option<&str>) -> Result<Kind, Unclear> {
+    match word {
+        Some(name) => mapping_named(name).ok_or(Unclear::NoMapping),
+        None => Err(Unclear::NoMapping),
+    }
+}
+
+fn digits(word: Option<&str>) -> Result<&'static [u8], Unclear> {
+    match word {
+        Some(text) => symbol_bits(text).ok_or(Unclear::NoBits),
+        None => Err(Unclear::NoBits),
+    }
+}
+
 // Reads a line.
 pub fn parse(line: &str) -> Result<Command, Unclear> {
     let mut words = line.split_whitespace();
@@ -51,6 +85,16 @@ pub fn parse(line: &str) -> Result<Command, Unclear> {
         Some("spoil") => Command::Spoil(number(words.next())? as usize),
         Some("correct") => Command::Correct,
         Some("full") => Command::Full,
+        Some("step") => Command::Step(mapping(words.next())?, byte(words.next())?, digits(words.next())?),
+        Some("read") => Command::Read(mapping(words.next())?, byte(words.next())?, byte(words.next())?),
+        Some("header") => Command::Write(Header {
+            rate: byte(words.next())?,
+            bytes: number(words.next())? as usize,
+            burst: byte(words.next())?,
+            seed: byte(words.next())?,
+        }),
+        Some("spoil-header") => Command::SpoilHeader(number(words.next())? as usize),
+        Some("read-header") => Command::ReadHeader,
         Some(_) => return Err(Unclear::Unknown),
     };
     match words.next() {

@@ -1,12 +1,15 @@
 // A bench for the door radio: reads commands from standard input, one a line, does them and prints what it did.
 mod command;
+mod headers;
 mod show;
+mod symbols;
 mod tag;
 mod words;
 
 use command::Command;
 use command::UnclearDisplay;
 use command::parse;
+use headers::Headers;
 use std::error::AnyError;
 use words::Words;
 
@@ -15,29 +18,46 @@ tag N           take tag number N (0 to 524287) and send its word: 19 message bi
 mix N M         hear the message of tag N with the parity of tag M, as when two tags answer at once
 spoil P         turn the heard bit at place P (0 to 30) round
 correct         correct what is heard in the code shortened by 32 bits
-full            show what the full code would do with 32 zeros in front";
+full            show what the full code would do with 32 zeros in front
+step M P BITS   step by mapping M (dbpsk, dqpsk, d8psk, gmsk) from symbol P with the bits of one symbol
+read M P N      read the step by mapping M from symbol P to symbol N
+header R N B S  write the header of rate R, N bytes, burst mark B and seed S
+spoil-header P  turn bit P (0 to 18) of the header round
+read-header     read the header back";
 
-fn act(rt: &LibcRuntime, words: &mut Words, command: Command) -> Result<(), AnyError> {
+// What is on the bench.
+#[derive(Clone, Copy)]
+struct Bench {
+    words: Words,
+    headers: Headers,
+}
+
+fn act(rt: &LibcRuntime, bench: &mut Bench, command: Command) -> Result<(), AnyError> {
     match command {
         Command::Nothing => {}
         Command::Help => println!(rt, "{HELP}")?,
-        Command::Tag(tag) => words.send(rt, tag)?,
-        Command::Mix(first, second) => words.mix(rt, first, second)?,
-        Command::Spoil(place) => words.spoil(rt, place)?,
-        Command::Correct => words.correct(rt)?,
-        Command::Full => words.full(rt)?,
+        Command::Tag(tag) => bench.words.send(rt, tag)?,
+        Command::Mix(first, second) => bench.words.mix(rt, first, second)?,
+        Command::Spoil(place) => bench.words.spoil(rt, place)?,
+        Command::Correct => bench.words.correct(rt)?,
+        Command::Full => bench.words.full(rt)?,
+        Command::Step(kind, prior, bits) => symbols::step(rt, kind, prior, bits)?,
+        Command::Read(kind, prior, next) => symbols::read(rt, kind, prior, next)?,
+        Command::Write(header) => bench.headers.write(rt, header)?,
+        Command::SpoilHeader(place) => bench.headers.spoil(rt, place)?,
+        Command::ReadHeader => bench.headers.read(rt)?,
     }
     Ok(())
 }
 
 fn run(rt: &LibcRuntime) -> Result<(), AnyError> {
-    let mut words = Words::new();
+    let mut bench = Bench { words: Words::new(), headers: Headers::new() };
     for line in rt.lines(rt.alloc()) {
         let line = line?;
         let text = line.as_str();
         println!(rt, "> {text}")?;
         match parse(text) {
-            Ok(command) => act(rt, &mut words, command)?,
+            Ok(command) => act(rt, &mut bench, command)?,
             Err(unclear) => println!(rt, "not understood: {unclear}; 'help' lists the commands")?,
         }
     }

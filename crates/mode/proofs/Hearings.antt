@@ -38,11 +38,11 @@ decide-there m list at n = go (decide-le 2 n) (decide-le n 2112) (decide-le (at 
 
 module _ (m : Mode) (L : Lawful m) (list : List ℕ) (at n : ℕ) where
   -- the copies of a part from which bits were read
-  module _ (two : 2 ≤ n) (bs : List ℕ) (r : Read m list at n bs) where
+  module _ (two : 2 ≤ n) (bs : List ℕ) (r : Read (m .map) list at (count m n) bs) where
     pub same-bits : (xs ys : List ℕ) → Bits n xs → Bits n ys → Within (m .code) (m .copies) (unsents (m .code .k) n) xs (copies-of m n bs)
         → Within (m .code) (m .copies) (unsents (m .code .k) n) ys (copies-of m n bs) → xs ≡ ys
     same-bits xs ys a b v w =
-        let h = copies-bits m L n bs two (r .bits) in
+        let h = copies-bits m L n bs two (bits-at _ _ bs (count-width m L n) (r .bits)) in
         within-one (m .code) (m .copies) (unsents (m .code .k) n) xs ys (copies-of m n bs) (L .code) (unsents-below (m .code .k) n (roomy m L))
         (unsents-bits m L n xs a) (unsents-bits m L n ys b) (h .bits) (omega (arith, h .size, copies-there m L n)) v w
 
@@ -56,7 +56,7 @@ module _ (m : Mode) (L : Lawful m) (list : List ℕ) (at n : ℕ) where
       let y = q .counts in
       (e, cc)
 
-  reach-fine : (xs : List ℕ) (c i k : ℕ) → Reach m list at n xs c → First (Amiss m list at) (at + 1 + count m n) i → ⊥
+  reach-fine : (xs : List ℕ) (c i k : ℕ) → Reach m list at n xs c → First (Amiss (m .map) list at) (at + 1 + count m n) i → ⊥
   reach-fine xs c i k r f = read-fine m list at n L (r .bits) (r .there) (r .read) i (f .below) (f .has)
 
   -- a part within reach has no fault
@@ -68,7 +68,7 @@ module _ (m : Mode) (L : Lawful m) (list : List ℕ) (at n : ℕ) where
       let w : Within (m .code) (m .copies) (unsents (m .code .k) n) xs (copies-of m n (f .0)) = rw d at (r .within) in
       within-found (m .code) (m .copies) (unsents (m .code .k) n) xs (copies-of m n (f .0)) (unsents-bits m L n xs (r .valid)) w (f .2 .0) (f .2 .1 .has)
 
-  word-fine : (i : ℕ) (bs : List ℕ) → There m list at n → Read m list at n bs → First (Amiss m list at) (at + 1 + count m n) i → ⊥
+  word-fine : (i : ℕ) (bs : List ℕ) → There m list at n → Read (m .map) list at (count m n) bs → First (Amiss (m .map) list at) (at + 1 + count m n) i → ⊥
   word-fine i bs t r f = read-fine m list at n L bs t r i (f .below) (f .has)
 
   -- a part has one fault at most
@@ -94,7 +94,7 @@ module _ (m : Mode) (L : Lawful m) (list : List ℕ) (at n : ℕ) where
   Told = ((xs : List ℕ) × (c : ℕ) × Reach m list at n xs c) ⊎ ((f : PartFault) × Faulty m list at n f)
 
   module _ (t : There m list at n) where
-    by-words : (bs : List ℕ) → Read m list at n bs
+    by-words : (bs : List ℕ) → Read (m .map) list at (count m n) bs
         → ((j : ℕ) × First (Lost (m .code) (m .copies) (unsents (m .code .k) n) (copies-of m n bs)) (words (m .code .k) n) j)
         ⊎ ((j : ℕ) → j < words (m .code .k) n → Lost (m .code) (m .copies) (unsents (m .code .k) n) (copies-of m n bs) j → ⊥) → Told
     by-words bs r (inl f) = go (first-or-none (Holds m at n (f .0)) (decide-holds m list at n L (f .0)) (at + 1 + count m n))
@@ -118,7 +118,7 @@ module _ (m : Mode) (L : Lawful m) (list : List ℕ) (at n : ℕ) where
           },
         )
 
-    by-symbols : ((i : ℕ) × First (Amiss m list at) (at + 1 + count m n) i) ⊎ ((i : ℕ) → i < at + 1 + count m n → Amiss m list at i → ⊥) → Told
+    by-symbols : ((i : ℕ) × First (Amiss (m .map) list at) (at + 1 + count m n) i) ⊎ ((i : ℕ) → i < at + 1 + count m n → Amiss (m .map) list at i → ⊥) → Told
     by-symbols (inl f) = elim (decide-le (m .map .q) (getD list (f .0) 0)) [
       | inl s ↦ inr (Symbol (f .0), (f .1, s))
       | inr s ↦ inr (Step (f .0), (f .1, s))
@@ -129,7 +129,7 @@ module _ (m : Mode) (L : Lawful m) (list : List ℕ) (at n : ℕ) where
         (decide-lost (m .code) (m .copies) (unsents (m .code .k) n) (copies-of m n (r .0))) (words (m .code .k) n))
 
     pub told : Told
-    told = by-symbols (first-or-none (Amiss m list at) (decide-amiss m list at n) (at + 1 + count m n))
+    told = by-symbols (first-or-none (Amiss (m .map) list at) (decide-amiss m list at n) (at + 1 + count m n))
 
   -- what is sent is within reach of what was sent
   pub sent-reaches : (xs : List ℕ) → There m list at n → Bits n xs → getD list at 0 < m .map .q → part m list at n ≡ sent m (getD list at 0) xs → Reach m list at n xs 0
@@ -146,7 +146,7 @@ module _ (m : Mode) (L : Lawful m) (list : List ℕ) (at n : ℕ) where
         valid = b;
         bits = air m xs;
         read = record {
-          bits = a;
+          bits = bits-at _ _ (air m xs) (sym (count-width m L n)) a;
           known = λ i f g. elim (cases-lt at i) [
             | inl l ↦
                 let j : i - (at + 1) < count m n = omega arith in

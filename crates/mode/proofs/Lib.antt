@@ -10,3 +10,9 @@ pub mod Readings
 pub mod Hearings
 pub mod Coding
 pub mod Room
+pub mod Sending
+pub mod Reading
+pub mod Blocks
+pub mod Deciding
+pub mod Finding
+pub mod Places

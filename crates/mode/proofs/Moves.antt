@@ -4,7 +4,7 @@ use mathlib.Core.Path.{_≡_, refl, sym, ap, _∙_}
 use mathlib.Core.Logic.{_⊎_, inl, inr, _≢_}
 use mathlib.Core.List.{List, [], _∷_}
 use native.Mathlib.Omega.{arith}
-use native.Mathlib.Nat.{mul-le-mul-left}
+use native.Mathlib.Nat.{mul-le-mul-left, mul-mod-right, mul-div-cancel-left}
 use lib.ListN.{length, getD, set}
 use Rattle.std.proofs.shelf.Lists.{same-lists, getD-read, getD-set-same, getD-set-other}
 use Rattle.std.proofs.shelf.Bits.{div-add-mod'}
@@ -51,6 +51,13 @@ module _ {X : Type 0} (xs ys : List X) (f : ℕ → ℕ) where
 
 pub copied-size : (s n : ℕ) → Copied s n → s * (n / s) ≡ n
 copied-size s n c = omega (arith, div-add-mod' n s, c .whole)
+
+pub copied-at : (s t : ℕ) → 0 < s → (t ≡ 1 → ⊥) → Copied s (s * t)
+copied-at s t p h = record {
+  several = p;
+  whole = mul-mod-right s t;
+  enough = λ e. h (sym (mul-div-cancel-left t p) ∙ e);
+}
 
 pub copied-places : (s n : ℕ) → Copied s n → Undoes n (forth s (n / s)) (back s (n / s))
 copied-places s n c = rw (copied-size s n c) at (forth-undoes s (n / s) (c .several) (c .enough))

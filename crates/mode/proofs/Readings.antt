@@ -89,10 +89,10 @@ module _ (m : Mode) (list : List ℕ) (at n : ℕ) where
   prior-getD zero l = ap (λ j. getD list j 0) (omega arith)
   prior-getD (suc i) l = part-getD i (omega arith) ∙ ap (λ j. getD list j 0) (omega arith)
 
-  pub decide-amiss : (i : ℕ) → Either (Amiss m list at i)
+  pub decide-amiss : (i : ℕ) → Either (Amiss (m .map) list at i)
   decide-amiss i = go (decide-le at i) (decide-le (m .map .q) (getD list i 0)) (cases-lt at i) (decide-unread (m .map) (getD list (i - 1) 0) (getD list i 0))
     where
-      go : Either (at ≤ i) → Either (Strange m list i) → (at < i) ⊎ (i ≤ at) → Either (Unread (m .map) (getD list (i - 1) 0) (getD list i 0)) → Either (Amiss m list at i)
+      go : Either (at ≤ i) → Either (Strange (m .map) list i) → (at < i) ⊎ (i ≤ at) → Either (Unread (m .map) (getD list (i - 1) 0) (getD list i 0)) → Either (Amiss (m .map) list at i)
       go (inr n) s b u = inr (λ a. n (a .0))
       go (inl l) (inl s) b u = inl (l, inl s)
       go (inl l) (inr s) (inl b) (inl u) = inl (l, inr (b, u))
@@ -101,20 +101,20 @@ module _ (m : Mode) (list : List ℕ) (at n : ℕ) where
 
   module _ (L : Lawful m) where
     -- the bits of a part lead through its symbols
-    pub leads-of : (bs : List ℕ) → There m list at n → Read m list at n bs → Leads (m .map) (length (part m list at n)) (getD list at 0) (part m list at n) bs
+    pub leads-of : (bs : List ℕ) → There m list at n → Read (m .map) list at (count m n) bs → Leads (m .map) (length (part m list at n)) (getD list at 0) (part m list at n) bs
     leads-of bs t r =
         let e = part-length t in
         record {
-          bits = bits-at _ _ bs (sym (count-width m L n) ∙ ap (λ i. i * m .map .w) (sym e)) (r .bits);
+          bits = bits-at _ _ bs (ap (λ i. i * m .map .w) (sym e)) (r .bits);
           same = ap (λ i. stepped (m .map) i (getD list at 0) bs) e ∙ r .leads;
         }
 
-    pub read-same : (bs cs : List ℕ) → Read m list at n bs → Read m list at n cs → bs ≡ cs
+    pub read-same : (bs cs : List ℕ) → Read (m .map) list at (count m n) bs → Read (m .map) list at (count m n) cs → bs ≡ cs
     read-same bs cs r q =
         stepped-same (m .map) (L .map) (count m n) (getD list at 0) bs cs (r .known at (omega arith) (omega arith))
-        (bits-at _ _ bs (sym (count-width m L n)) (r .bits)) (bits-at _ _ cs (sym (count-width m L n)) (q .bits)) (r .leads ∙ sym (q .leads))
+        (r .bits) (q .bits) (r .leads ∙ sym (q .leads))
 
-    pub read-fine : (bs : List ℕ) → There m list at n → Read m list at n bs → (i : ℕ) → i < at + 1 + count m n → Amiss m list at i → ⊥
+    pub read-fine : (bs : List ℕ) → There m list at n → Read (m .map) list at (count m n) bs → (i : ℕ) → i < at + 1 + count m n → Amiss (m .map) list at i → ⊥
     read-fine bs t r i l a = elim (a .1) [
       | inl s ↦ omega (arith, r .known i (a .0) (omega arith))
       | inr u ↦
@@ -126,17 +126,17 @@ module _ (m : Mode) (list : List ℕ) (at n : ℕ) where
           leads-read (m .map) (getD list at 0) (part m list at n) bs (leads-of bs t r) (i - (at + 1)) (omega arith) (rw (x, y) (u .1))
     ]
 
-    read-of : (bs : List ℕ) → There m list at n → ((i : ℕ) → i < at + 1 + count m n → Amiss m list at i → ⊥)
-        → Leads (m .map) (length (part m list at n)) (getD list at 0) (part m list at n) bs → Read m list at n bs
+    read-of : (bs : List ℕ) → There m list at n → ((i : ℕ) → i < at + 1 + count m n → Amiss (m .map) list at i → ⊥)
+        → Leads (m .map) (length (part m list at n)) (getD list at 0) (part m list at n) bs → Read (m .map) list at (count m n) bs
     read-of bs t h d =
         let o = part-length t in
         record {
-          bits = bits-at _ _ bs (ap (λ i. i * m .map .w) o ∙ count-width m L n) (d .bits);
+          bits = bits-at _ _ bs (ap (λ i. i * m .map .w) o) (d .bits);
           known = λ i a b. elim (cases-lt (getD list i 0) (m .map .q)) [ inl l ↦ l | inr l ↦ absurd (h i (omega arith) (a, inl l)) ];
           leads = ap (λ i. stepped (m .map) i (getD list at 0) bs) (sym o) ∙ d .same;
         }
 
-    pub fine-read : There m list at n → ((i : ℕ) → i < at + 1 + count m n → Amiss m list at i → ⊥) → (bs : List ℕ) × Read m list at n bs
+    pub fine-read : There m list at n → ((i : ℕ) → i < at + 1 + count m n → Amiss (m .map) list at i → ⊥) → (bs : List ℕ) × Read (m .map) list at (count m n) bs
     fine-read t h =
         let o = part-length t in
         let d = read-leads (m .map) (getD list at 0) (part m list at n) (λ i l u.

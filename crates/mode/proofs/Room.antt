@@ -4,7 +4,7 @@ use mathlib.Core.Path.{_≡_, refl, sym, ap, _∙_}
 use mathlib.Core.Logic.{_⊎_, inl, inr}
 use mathlib.Core.List.{List, _++_}
 use native.Mathlib.Omega.{arith}
-use native.Mathlib.Nat.{mul-le-mul-right, mul-div-cancel-left, mul-mod-right, sub-zero}
+use native.Mathlib.Nat.{mul-le-mul-right, mul-div-cancel-left, sub-zero}
 use borrow.Rule.Slice.PartMut.{putMid}
 use lib.ListN.{length, take, drop, replicate}
 use Rattle.std.proofs.shelf.Bits.{mul-le, mod-below}
@@ -23,6 +23,7 @@ use Rattle.mode.specs.Copying.{spread}
 use Rattle.mode.specs.Modes.{Mode, Lawful, Carried, coded, plain, pad, total, count, padded, air}
 use Rattle.mode.specs.Chains.{chained}
 use Rattle.mode.proofs.Splits.{words-room}
+use Rattle.mode.proofs.Moves.{copied-at}
 use Rattle.mode.proofs.Coding.{put-two}
 use Rattle.mode.proofs.Spoils.{length-spread}
 use Rattle.mode.proofs.Whole.{several, few-copies, wide, count-width, total-enough}
@@ -83,13 +84,6 @@ unfolding total padded
 padded-is m xs ws os zs a e l f n z =
     let k : length (take (length (ws ++ os) - a) (drop a (ws ++ os))) ≡ pad m (length xs) = simp (length-take, length-drop) (omega arith) in
     put-two a ws os zs l ∙ ap (λ us. us ++ zs) e ∙ ap (λ us. coded (m .code) (unsents (m .code .k) (length xs)) xs ++ us) (z ∙ ap (λ j. replicate j 0) k)
-
-pub copied-at : (s t : ℕ) → 0 < s → (t ≡ 1 → ⊥) → Copied s (s * t)
-copied-at s t p h = record {
-  several = p;
-  whole = mul-mod-right s t;
-  enough = λ e. h (sym (mul-div-cancel-left t p) ∙ e);
-}
 
 -- the front of a list, as the code takes it
 pub front-is : {A : Type 0} (xs ys : List A) (n : ℕ) → length xs ≡ n → take (n - 0) (xs ++ ys) ≡ xs

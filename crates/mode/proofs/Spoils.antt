@@ -146,3 +146,11 @@ spoilt-front s (b ∷ bs) xs ys l =
     let k : s ≤ length xs = omega arith in
     rw (take-append-le s xs ys k, drop-append-le s xs ys k)
     (ap (λ n. cond (leb s (2 * differing b (take s xs))) 1 0 + n) (spoilt-front s bs (drop s xs) ys (simp length-drop (omega arith))))
+
+pub spoilt-le : (s : ℕ) (ws es : List ℕ) → spoilt s ws es ≤ length ws
+spoilt-le s [] es = omega arith
+spoilt-le s (b ∷ ws) es =
+    let ih = spoilt-le s ws (drop s es) in
+    elim (cases-lt (2 * differing b (take s es)) s) [
+      inl l ↦ rw (lt-leb s (2 * differing b (take s es)) l) (omega arith)
+    | inr l ↦ rw (le-leb s (2 * differing b (take s es)) l) (omega arith) ]

@@ -59,11 +59,11 @@ blocked-undoes b m f g p u = record { below = below; undone = undone }
         let m = div-add-mod' i b in
         rw (e, x, y, z) (omega arith)
 
-headed-low : (h : ℕ) (f g : ℕ → ℕ) (i : ℕ) → i < h → headed h f g i ≡ f i
+pub headed-low : (h : ℕ) (f g : ℕ → ℕ) (i : ℕ) → i < h → headed h f g i ≡ f i
 unfolding headed
 headed-low h f g i l = cond-true (ltb i h) (f i) (h + g (i - h)) (lt-ltb i h l)
 
-headed-high : (h : ℕ) (f g : ℕ → ℕ) (i : ℕ) → headed h f g (h + i) ≡ h + g i
+pub headed-high : (h : ℕ) (f g : ℕ → ℕ) (i : ℕ) → headed h f g (h + i) ≡ h + g i
 unfolding headed
 headed-high h f g i =
     let e : h + i - h ≡ i = omega arith in
@@ -108,7 +108,7 @@ cases-lead s t = elim (cases-two t) [ inl e ↦ inl (rw e (omega arith)) | inr e
 abbrev pub pairs : ℕ → ℕ
 pairs t = (t - 3 * (t % 2)) / 2
 
-size : (s t : ℕ) → Enough t → lead s t + (2 * s) * pairs t ≡ s * t
+pub size : (s t : ℕ) → Enough t → lead s t + (2 * s) * pairs t ≡ s * t
 unfolding lead
 size s t k =
     let e : t ≡ 3 * (t % 2) + 2 * pairs t = omega arith in

@@ -8,6 +8,7 @@ use Rattle.std.specs.declared.result.Result.the-variants.{Ok, Err}
 use Rattle.std.specs.shelf.Lists.{All}
 use Rattle.bits.specs.declared.bad_call.BadCall.{BadCall}
 use Rattle.bits.specs.Strings.{Bit}
+use Rattle.mapping.specs.Maps.{Map}
 use Rattle.mode.specs.declared.fault.PartFault.{PartFault}
 use Rattle.mode.specs.declared.fault.PartFault.the-variants.{Symbol, Step, Word}
 use Rattle.mode.specs.declared.fault.HearFault.{HearFault}
@@ -35,15 +36,32 @@ Sends m prior xs before after (Ok n) =
     Sendable m prior xs before × (n ≡ count m (length xs)) × (after ≡ sent m prior xs ++ drop n before)
 Sends m prior xs before after (Err e) = (Sendable m prior xs before → ⊥) × (after ≡ before)
 
--- What is at fault in a part. The lowest index at which a symbol is not below q or cannot be read is told, and at one
--- index that it is not below q. If there is none, the first lost word is told by the lowest index with a copy of it.
+-- What cannot be read from so many symbols after index `at`: the lowest index that is amiss is told, and that the number
+-- there is not below q, or else that no step leads to it.
+abbrev pub Misread : Map → List ℕ → ℕ → ℕ → PartFault → Type 0
+Misread f list at many (Symbol i) = First (Amiss f list at) (at + 1 + many) i × Strange f list i
+Misread f list at many (Step i) = First (Amiss f list at) (at + 1 + many) i × (Strange f list i → ⊥)
+Misread f list at many (Word i) = ⊥
+
+-- Reading so many symbols after index `at` leaves their bits, or tells what cannot be read.
+abbrev pub ReadsPart : Map → List ℕ → ℕ → ℕ → List ℕ → Result (Unit {0}) PartFault → Type 0
+ReadsPart f list at many after (Ok u) = Read f list at many after
+ReadsPart f list at many after (Err e) = Misread f list at many e
+
+-- What is at fault in a part: what cannot be read, or else the first lost word, which is told by the lowest index with
+-- a copy of one of its bits.
 abbrev pub Faulty : Mode → List ℕ → ℕ → ℕ → PartFault → Type 0
-Faulty m list at n (Symbol i) = First (Amiss m list at) (at + 1 + count m n) i × Strange m list i
-Faulty m list at n (Step i) = First (Amiss m list at) (at + 1 + count m n) i × (Strange m list i → ⊥)
+Faulty m list at n (Symbol i) = Misread (m .map) list at (count m n) (Symbol i)
+Faulty m list at n (Step i) = Misread (m .map) list at (count m n) (Step i)
 Faulty m list at n (Word i) =
-    (bs : List ℕ) × Read m list at n bs
+    (bs : List ℕ) × Read (m .map) list at (count m n) bs
     × ((j : ℕ) × First (Lost (m .code) (m .copies) (unsents (m .code .k) n) (copies-of m n bs)) (words (m .code .k) n) j
     × First (Holds m at n j) (at + 1 + count m n) i)
+
+-- Hearing a part that is there leaves its bits, or tells what is at fault.
+abbrev pub HearsPart : Mode → List ℕ → ℕ → ℕ → List ℕ → Result ℕ PartFault → Type 0
+HearsPart m list at n after (Ok c) = Reach m list at n after c
+HearsPart m list at n after (Err f) = Faulty m list at n f
 
 -- Hearing as many bits as the buffer has places, after the symbol at index `at`: if the list is within reach of bits,
 -- these are in the buffer, and the answer is how many of their words' bits are spoilt. If a part is faulty, the answer

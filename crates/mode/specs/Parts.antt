@@ -27,24 +27,24 @@ pub record There (m : Mode) (list : List ℕ) (at n : ℕ) : Type 0 where
 abbrev pub part : Mode → List ℕ → ℕ → ℕ → List ℕ
 part m list at n = take (count m n) (drop (at + 1) list)
 
--- index i of the list holds a symbol that is not below q
-abbrev pub Strange : Mode → List ℕ → ℕ → Type 0
-Strange m list i = m .map .q ≤ getD list i 0
+-- index i of the list holds a number that is not below q
+abbrev pub Strange : Map → List ℕ → ℕ → Type 0
+Strange f list i = f .q ≤ getD list i 0
 
 -- no bits lead from the symbol p to the symbol s
 abbrev pub Unread : Map → ℕ → ℕ → Type 0
 Unread f p s = (bs : List ℕ) → Bits (f .w) bs → f .next p bs ≡ s → ⊥
 
 -- index i of the list, which is `at` or after it, holds no symbol, or one to which no step leads from the one before it
-abbrev pub Amiss : Mode → List ℕ → ℕ → ℕ → Type 0
-Amiss m list at i =
-    (at ≤ i) × (Strange m list i ⊎ ((at < i) × Unread (m .map) (getD list (i - 1) 0) (getD list i 0)))
+abbrev pub Amiss : Map → List ℕ → ℕ → ℕ → Type 0
+Amiss f list at i =
+    (at ≤ i) × (Strange f list i ⊎ ((at < i) × Unread f (getD list (i - 1) 0) (getD list i 0)))
 
--- the bits bs were read from the part: they lead through its symbols
-pub record Read (m : Mode) (list : List ℕ) (at n : ℕ) (bs : List ℕ) : Type 0 where
-  pub bits : Bits (m .copies * total m n) bs
-  pub known : (i : ℕ) → at ≤ i → i ≤ at + count m n → getD list i 0 < m .map .q
-  pub leads : stepped (m .map) (count m n) (getD list at 0) bs ≡ part m list at n
+-- the bits bs are read from so many symbols after index `at`: these are below q, and the bits lead through them
+pub record Read (f : Map) (list : List ℕ) (at many : ℕ) (bs : List ℕ) : Type 0 where
+  pub bits : Bits (many * f .w) bs
+  pub known : (i : ℕ) → at ≤ i → i ≤ at + many → getD list i 0 < f .q
+  pub leads : stepped f many (getD list at 0) bs ≡ take many (drop (at + 1) list)
 
 -- the copies of the coded bits, as many for each bit after the other, in a part from which the bits bs were read
 abbrev pub copies-of : Mode → ℕ → List ℕ → List ℕ
@@ -70,7 +70,7 @@ pub record Reach (m : Mode) (list : List ℕ) (at n : ℕ) (xs : List ℕ) (c : 
   pub there : There m list at n
   pub valid : Bits n xs
   pub bits : List ℕ
-  pub read : Read m list at n bits
+  pub read : Read (m .map) list at (count m n) bits
   pub within : Within (m .code) (m .copies) (unsents (m .code .k) n) xs (copies-of m n bits)
   pub counts : spoilt-all (m .code) (m .copies) (unsents (m .code .k) n) xs (copies-of m n bits) ≡ c
 

@@ -37,7 +37,7 @@ put-copies-requires g c κs =
 pub returns : need.returns
 returns g c =
     let k = coded-sized g (need.at·returns g c .After-write-coded) in
-    air-is _ (c .args .bits .now) _ (c .put-copies .last .air) (c .count .result) (c .count .ensures)
+    air-is (chained (g .C·BlockCode .code (c .args .self .now .code)) (c .args .self .now .copies) (g .M·Mapping .map)) (c .args .bits .now) _ (c .put-copies .last .air) (c .count .result) (c .count .ensures)
     (front-is (c .write-coded .last .coded) _ (c .coded-bits-total .result) k ∙ c .write-coded .ensures)
     (front-length (c .write-coded .last .coded) _ (c .coded-bits-total .result) k ∙ c .coded-bits-total .ensures)
     (c .put-copies .ensures)
