@@ -1,0 +1,12 @@
+pub mod Shares
+pub mod Orders
+pub mod Copying
+pub mod Heard
+pub mod Modes
+pub mod Parts
+pub mod Faults
+pub mod Answers
+pub mod Hearing
+pub mod Laws
+pub mod Examples
+pub mod Chains

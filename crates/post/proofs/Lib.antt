@@ -1,0 +1,4 @@
+pub mod Calling
+pub mod Framing
+pub mod Requests
+pub mod Listening

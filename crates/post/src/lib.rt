@@ -1,0 +1,7 @@
+// Posts: open, retune, send and hear.
+mod calls;
+mod hearing;
+pub mod post;
+mod sending;
+
+pub use post::Post;
