@@ -1,3 +1,4 @@
+use super::radio::Side;
 use super::symbols::Kind;
 use super::symbols::mapping_named;
 use super::symbols::symbol_bits;
@@ -6,7 +7,7 @@ use std::fmt;
 
 // What a line asks for.
 #[derive(Clone, Copy)]
-pub enum Command {
+pub enum Command<'a> {
     Nothing,
     Help,
     Tag(u32),
@@ -19,6 +20,12 @@ pub enum Command {
     Write(Header),
     SpoilHeader(usize),
     ReadHeader,
+    Open(Side, u32, u32),
+    Retune(u32),
+    Send(u32, u32, usize, &'a str),
+    Put(usize, u8),
+    Cut(usize),
+    Hear(usize),
 }
 
 // Why a line cannot be read.
@@ -28,6 +35,8 @@ pub enum Unclear {
     NoNumber,
     NoMapping,
     NoBits,
+    NoSide,
+    NoText,
     TooMuch,
 }
 
@@ -38,6 +47,8 @@ pub impl fmt::Display for Unclear as UnclearDisplay {
             Unclear::NoNumber => f.write_str("a number is missing or cannot be read"),
             Unclear::NoMapping => f.write_str("the mappings are dbpsk, dqpsk, d8psk and gmsk"),
             Unclear::NoBits => f.write_str("the bits of a symbol are one to three digits 0 or 1"),
+            Unclear::NoSide => f.write_str("the posts are sender and hearer"),
+            Unclear::NoText => f.write_str("the PSDU is missing"),
             Unclear::TooMuch => f.write_str("there is more on the line than the command takes"),
         }
     }
@@ -74,8 +85,20 @@ fn digits(word: Option<&str>) -> Result<&'static [u8], Unclear> {
     }
 }
 
+fn side(word: Option<&str>) -> Result<Side, Unclear> {
+    match word {
+        Some("sender") => Ok(Side::Sender),
+        Some("hearer") => Ok(Side::Hearer),
+        _ => Err(Unclear::NoSide),
+    }
+}
+
+fn text(word: Option<&str>) -> Result<&str, Unclear> {
+    word.ok_or(Unclear::NoText)
+}
+
 // Reads a line.
-pub fn parse(line: &str) -> Result<Command, Unclear> {
+pub fn parse(line: &str) -> Result<Command<'_>, Unclear> {
     let mut words = line.split_whitespace();
     let command = match words.next() {
         None => Command::Nothing,
@@ -85,8 +108,16 @@ pub fn parse(line: &str) -> Result<Command, Unclear> {
         Some("spoil") => Command::Spoil(number(words.next())? as usize),
         Some("correct") => Command::Correct,
         Some("full") => Command::Full,
-        Some("step") => Command::Step(mapping(words.next())?, byte(words.next())?, digits(words.next())?),
-        Some("read") => Command::Read(mapping(words.next())?, byte(words.next())?, byte(words.next())?),
+        Some("step") => Command::Step(
+            mapping(words.next())?,
+            byte(words.next())?,
+            digits(words.next())?,
+        ),
+        Some("read") => Command::Read(
+            mapping(words.next())?,
+            byte(words.next())?,
+            byte(words.next())?,
+        ),
         Some("header") => Command::Write(Header {
             rate: byte(words.next())?,
             bytes: number(words.next())? as usize,
@@ -95,6 +126,21 @@ pub fn parse(line: &str) -> Result<Command, Unclear> {
         }),
         Some("spoil-header") => Command::SpoilHeader(number(words.next())? as usize),
         Some("read-header") => Command::ReadHeader,
+        Some("open") => Command::Open(
+            side(words.next())?,
+            number(words.next())?,
+            number(words.next())?,
+        ),
+        Some("retune") => Command::Retune(number(words.next())?),
+        Some("send") => Command::Send(
+            number(words.next())?,
+            number(words.next())?,
+            number(words.next())? as usize,
+            text(words.next())?,
+        ),
+        Some("put") => Command::Put(number(words.next())? as usize, byte(words.next())?),
+        Some("cut") => Command::Cut(number(words.next())? as usize),
+        Some("hear") => Command::Hear(number(words.next())? as usize),
         Some(_) => return Err(Unclear::Unknown),
     };
     match words.next() {
