@@ -97,54 +97,103 @@ fn text(word: Option<&str>) -> Result<&str, Unclear> {
     word.ok_or(Unclear::NoText)
 }
 
+// The words of a line after the first.
+#[derive(Clone, Copy)]
+struct Words<'a> {
+    one: Option<&'a str>,
+    two: Option<&'a str>,
+    three: Option<&'a str>,
+    four: Option<&'a str>,
+}
+
+// Commands on words of a code.
+fn code_command<'a>(name: &str, words: Words<'a>) -> Result<Command<'a>, Unclear> {
+    match name {
+        "tag" => Ok(Command::Tag(number(words.one)?)),
+        "mix" => Ok(Command::Mix(number(words.one)?, number(words.two)?)),
+        "spoil" => Ok(Command::Spoil(number(words.one)? as usize)),
+        "correct" => Ok(Command::Correct),
+        "full" => Ok(Command::Full),
+        _ => Err(Unclear::Unknown),
+    }
+}
+
+// Commands on mappings.
+fn mapping_command<'a>(name: &str, words: Words<'a>) -> Result<Command<'a>, Unclear> {
+    match name {
+        "step" => Ok(Command::Step(mapping(words.one)?, byte(words.two)?, digits(words.three)?)),
+        _ => Ok(Command::Read(mapping(words.one)?, byte(words.two)?, byte(words.three)?)),
+    }
+}
+
+// A header's fields.
+fn header(words: Words<'_>) -> Result<Header, Unclear> {
+    let rate = byte(words.one)?;
+    let bytes = number(words.two)? as usize;
+    let burst = byte(words.three)?;
+    let seed = byte(words.four)?;
+    Ok(Header { rate, bytes, burst, seed })
+}
+
+// Commands on headers.
+fn header_command<'a>(name: &str, words: Words<'a>) -> Result<Command<'a>, Unclear> {
+    match name {
+        "header" => Ok(Command::Write(header(words)?)),
+        "spoil-header" => Ok(Command::SpoilHeader(number(words.one)? as usize)),
+        _ => Ok(Command::ReadHeader),
+    }
+}
+
+// A frame to send.
+fn frame<'a>(words: Words<'a>) -> Result<Command<'a>, Unclear> {
+    let rate = number(words.one)?;
+    let burst = number(words.two)?;
+    let room = number(words.three)? as usize;
+    let psdu = text(words.four)?;
+    Ok(Command::Send(rate, burst, room, psdu))
+}
+
+// Commands on posts.
+fn post_command<'a>(name: &str, words: Words<'a>) -> Result<Command<'a>, Unclear> {
+    match name {
+        "open" => Ok(Command::Open(side(words.one)?, number(words.two)?, number(words.three)?)),
+        "retune" => Ok(Command::Retune(number(words.one)?)),
+        "send" => frame(words),
+        "put" => Ok(Command::Put(number(words.one)? as usize, byte(words.two)?)),
+        "cut" => Ok(Command::Cut(number(words.one)? as usize)),
+        _ => Ok(Command::Hear(number(words.one)? as usize)),
+    }
+}
+
+// How many words a command has.
+fn size(command: &Command<'_>) -> usize {
+    match command {
+        Command::Nothing => 0,
+        Command::Help | Command::Correct | Command::Full | Command::ReadHeader => 1,
+        Command::Tag(_) | Command::Spoil(_) | Command::SpoilHeader(_) => 2,
+        Command::Retune(_) | Command::Cut(_) | Command::Hear(_) => 2,
+        Command::Mix(..) | Command::Put(..) => 3,
+        Command::Step(..) | Command::Read(..) | Command::Open(..) => 4,
+        Command::Write(_) | Command::Send(..) => 5,
+    }
+}
+
 // Reads a line.
 pub fn parse(line: &str) -> Result<Command<'_>, Unclear> {
-    let mut words = line.split_whitespace();
-    let command = match words.next() {
-        None => Command::Nothing,
-        Some("help") => Command::Help,
-        Some("tag") => Command::Tag(number(words.next())?),
-        Some("mix") => Command::Mix(number(words.next())?, number(words.next())?),
-        Some("spoil") => Command::Spoil(number(words.next())? as usize),
-        Some("correct") => Command::Correct,
-        Some("full") => Command::Full,
-        Some("step") => Command::Step(
-            mapping(words.next())?,
-            byte(words.next())?,
-            digits(words.next())?,
-        ),
-        Some("read") => Command::Read(
-            mapping(words.next())?,
-            byte(words.next())?,
-            byte(words.next())?,
-        ),
-        Some("header") => Command::Write(Header {
-            rate: byte(words.next())?,
-            bytes: number(words.next())? as usize,
-            burst: byte(words.next())?,
-            seed: byte(words.next())?,
-        }),
-        Some("spoil-header") => Command::SpoilHeader(number(words.next())? as usize),
-        Some("read-header") => Command::ReadHeader,
-        Some("open") => Command::Open(
-            side(words.next())?,
-            number(words.next())?,
-            number(words.next())?,
-        ),
-        Some("retune") => Command::Retune(number(words.next())?),
-        Some("send") => Command::Send(
-            number(words.next())?,
-            number(words.next())?,
-            number(words.next())? as usize,
-            text(words.next())?,
-        ),
-        Some("put") => Command::Put(number(words.next())? as usize, byte(words.next())?),
-        Some("cut") => Command::Cut(number(words.next())? as usize),
-        Some("hear") => Command::Hear(number(words.next())? as usize),
-        Some(_) => return Err(Unclear::Unknown),
+    let mut all = line.split_whitespace();
+    let Some(name) = all.next() else {
+        return Ok(Command::Nothing);
     };
-    match words.next() {
-        None => Ok(command),
-        Some(_) => Err(Unclear::TooMuch),
+    let words = Words { one: all.next(), two: all.next(), three: all.next(), four: all.next() };
+    let command = match name {
+        "help" => Command::Help,
+        "step" | "read" => mapping_command(name, words)?,
+        "header" | "spoil-header" | "read-header" => header_command(name, words)?,
+        "open" | "retune" | "send" | "put" | "cut" | "hear" => post_command(name, words)?,
+        _ => code_command(name, words)?,
+    };
+    if line.split_whitespace().count() > size(&command) {
+        return Err(Unclear::TooMuch);
     }
+    Ok(command)
 }

@@ -68,11 +68,10 @@ fn act(rt: &LibcRuntime, bench: &mut Bench, command: Command<'_>) -> Result<(), 
 }
 
 fn run(rt: &LibcRuntime) -> Result<(), AnyError> {
-    let mut bench = Bench {
-        words: Words::new(),
-        headers: Headers::new(),
-        radio: Radio::new(rt.alloc()),
+    let Ok(radio) = Radio::new(rt.alloc()) else {
+        return Err("the posts cannot be opened".into());
     };
+    let mut bench = Bench { words: Words::new(), headers: Headers::new(), radio };
     for line in rt.lines(rt.alloc()) {
         let line = line?;
         let text = line.as_str();

@@ -20,8 +20,8 @@ pub enum Side {
 // Two posts, and what one hears of the other: a list from the last preamble symbol on.
 #[derive(Drop)]
 pub struct Radio {
-    sender: Option<Post<Band>>,
-    hearer: Option<Post<Band>>,
+    sender: Post<Band>,
+    hearer: Post<Band>,
     list: Vec<u8>,
 }
 
@@ -90,12 +90,11 @@ fn show_delivery(rt: &impl Print, delivered: Delivered, output: &[u8]) -> io::Re
 }
 
 impl Radio {
-    pub fn new(heap: Global) -> Radio {
-        Radio {
-            sender: None,
-            hearer: None,
-            list: Vec::new(heap),
-        }
+    // Both posts on channel 0 of band 2, and nothing heard yet.
+    pub fn new(heap: Global) -> Result<Radio, Fault> {
+        let sender = open_band(2, 0)?;
+        let hearer = open_band(2, 0)?;
+        Ok(Radio { sender, hearer, list: Vec::new(heap) })
     }
 
     // Opens one of the posts.
@@ -103,8 +102,8 @@ impl Radio {
         match open_band(band, channel) {
             Ok(post) => {
                 match side {
-                    Side::Sender => self.sender = Some(post),
-                    Side::Hearer => self.hearer = Some(post),
+                    Side::Sender => self.sender = post,
+                    Side::Hearer => self.hearer = post,
                 }
                 println!(rt, "open on channel {channel} of band {band}")
             }
@@ -114,10 +113,7 @@ impl Radio {
 
     // Retunes the sender.
     pub fn retune(&mut self, rt: &impl Print, channel: u32) -> io::Result<()> {
-        let Some(post) = &mut self.sender else {
-            return println!(rt, "open the sender first");
-        };
-        match post.retune(channel) {
+        match self.sender.retune(channel) {
             Ok(()) => println!(rt, "on channel {channel}"),
             Err(fault) => show_fault(rt, fault),
         }
@@ -134,11 +130,7 @@ impl Radio {
         psdu: &[u8],
     ) -> Result<(), AnyError> {
         let mut symbols = vec![in heap; 0u8; room.min(LONGEST)]?;
-        let Some(post) = &mut self.sender else {
-            println!(rt, "open the sender first")?;
-            return Ok(());
-        };
-        send_into(rt, post, rate, burst, psdu, &mut symbols, &mut self.list)
+        send_into(rt, &mut self.sender, rate, burst, psdu, &mut symbols, &mut self.list)
     }
 
     // Puts a symbol into the heard list.
@@ -160,11 +152,7 @@ impl Radio {
     // Hears the list into an output of so many bytes.
     pub fn hear(&self, rt: &impl Print, heap: Global, room: usize) -> Result<(), AnyError> {
         let mut output = vec![in heap; 0u8; room.min(LONGEST)]?;
-        let Some(post) = &self.hearer else {
-            println!(rt, "open the hearer first")?;
-            return Ok(());
-        };
-        match post.hear(&self.list, &mut output) {
+        match self.hearer.hear(&self.list, &mut output) {
             Ok(delivered) => show_delivery(rt, delivered, &output)?,
             Err(fault) => show_fault(rt, fault)?,
         }
