@@ -38,15 +38,20 @@ fn interleaves_and_back() -> Result<(), Fail> {
     check_eq(deinterleave(3, &out, &mut back), Err(BadCall))
 }
 
-// A frame's part with some symbols replaced, and what hearing it answers.
-fn heard(changes: &[(usize, u8)]) -> Result<Result<usize, HearFault>, BadCall> {
-    let mut list = [4u8; 63];
-    let _ = B2.send(4, &BITS, &mut list[1..])?;
+// Replaces some symbols of a list.
+fn change(list: &mut [u8], changes: &[(usize, u8)]) {
     for (i, symbol) in changes {
-        if *i < 63 {
+        if *i < list.len() {
             list[*i] = *symbol;
         }
     }
+}
+
+// What hearing a part with some symbols replaced answers.
+fn heard(changes: &[(usize, u8)]) -> Result<Result<usize, HearFault>, BadCall> {
+    let mut list = [4u8; 63];
+    let _ = B2.send(4, &BITS, &mut list[1..])?;
+    change(&mut list, changes);
     let mut bits = [0u8; 19];
     Ok(B2.hear(&list, 0, &mut bits))
 }
