@@ -132,7 +132,12 @@ fn header(words: Words<'_>) -> Result<Header, Unclear> {
     let bytes = number(words.two)? as usize;
     let burst = byte(words.three)?;
     let seed = byte(words.four)?;
-    Ok(Header { rate, bytes, burst, seed })
+    Ok(Header {
+        rate,
+        bytes,
+        burst,
+        seed,
+    })
 }
 
 // Commands on headers.
@@ -184,7 +189,12 @@ pub fn parse(line: &str) -> Result<Command<'_>, Unclear> {
     let Some(name) = all.next() else {
         return Ok(Command::Nothing);
     };
-    let words = Words { one: all.next(), two: all.next(), three: all.next(), four: all.next() };
+    let words = Words {
+        one: all.next(),
+        two: all.next(),
+        three: all.next(),
+        four: all.next(),
+    };
     let command = match name {
         "help" => Command::Help,
         "step" | "read" => mapping_command(name, words)?,

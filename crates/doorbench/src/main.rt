@@ -71,7 +71,11 @@ fn run(rt: &LibcRuntime) -> Result<(), AnyError> {
     let Ok(radio) = Radio::new(rt.alloc()) else {
         return Err("the posts cannot be opened".into());
     };
-    let mut bench = Bench { words: Words::new(), headers: Headers::new(), radio };
+    let mut bench = Bench {
+        words: Words::new(),
+        headers: Headers::new(),
+        radio,
+    };
     for line in rt.lines(rt.alloc()) {
         let line = line?;
         let text = line.as_str();

@@ -94,7 +94,11 @@ impl Radio {
     pub fn new(heap: Global) -> Result<Radio, Fault> {
         let sender = open_band(2, 0)?;
         let hearer = open_band(2, 0)?;
-        Ok(Radio { sender, hearer, list: Vec::new(heap) })
+        Ok(Radio {
+            sender,
+            hearer,
+            list: Vec::new(heap),
+        })
     }
 
     // Opens one of the posts.
@@ -130,7 +134,15 @@ impl Radio {
         psdu: &[u8],
     ) -> Result<(), AnyError> {
         let mut symbols = vec![in heap; 0u8; room.min(LONGEST)]?;
-        send_into(rt, &mut self.sender, rate, burst, psdu, &mut symbols, &mut self.list)
+        send_into(
+            rt,
+            &mut self.sender,
+            rate,
+            burst,
+            psdu,
+            &mut symbols,
+            &mut self.list,
+        )
     }
 
     // Puts a symbol into the heard list.

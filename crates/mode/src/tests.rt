@@ -12,8 +12,18 @@ use mapping::Dbpsk;
 use mapping::DbpskMapping;
 use std::test::*;
 
-const B2: Chain<Bch63, Dbpsk> = Chain { code: Bch63, copies: Copies::Two, mapping: Dbpsk };
-const E1: Chain<Plain, D8psk> = Chain { code: Plain, copies: Copies::One, mapping: D8psk };
+const B2: Chain<Bch63, Dbpsk> = Chain {
+    code: Bch63,
+    copies: Copies::Two,
+    mapping: Dbpsk,
+};
+
+const E1: Chain<Plain, D8psk> = Chain {
+    code: Plain,
+    copies: Copies::One,
+    mapping: D8psk,
+};
+
 const BITS: [u8; 19] = [1, 0, 1, 1, 0, 0, 0, 1, 1, 1, 0, 1, 0, 0, 1, 1, 1, 0, 1];
 
 #[test]
@@ -65,14 +75,23 @@ fn hears_what_was_sent() -> Result<(), Fail> {
     check_eq(bits, BITS)?;
     let pair: Choice<Chain<Plain, D8psk>, Chain<Bch63, Dbpsk>> = Choice::Second(B2);
     check_eq(pair.hear(&list, 0, &mut bits), Ok(0))?;
-    check_eq(pair.hear(&list, 1, &mut bits), Err(HearFault::Call(BadCall)))?;
+    check_eq(
+        pair.hear(&list, 1, &mut bits),
+        Err(HearFault::Call(BadCall)),
+    )?;
     check_eq(E1.symbol_count(80), Ok(27))?;
     check_eq(E1.symbol_count(1), Err(BadCall))
 }
 
 #[test]
 fn tells_faults_by_their_index() -> Result<(), Fail> {
-    check_eq(heard(&[(0, 16)])?, Err(HearFault::Part(PartFault::Symbol(0))))?;
-    check_eq(heard(&[(5, 200), (9, 17)])?, Err(HearFault::Part(PartFault::Symbol(5))))?;
+    check_eq(
+        heard(&[(0, 16)])?,
+        Err(HearFault::Part(PartFault::Symbol(0))),
+    )?;
+    check_eq(
+        heard(&[(5, 200), (9, 17)])?,
+        Err(HearFault::Part(PartFault::Symbol(5))),
+    )?;
     check_eq(heard(&[(7, 5)])?, Err(HearFault::Part(PartFault::Step(7))))
 }
