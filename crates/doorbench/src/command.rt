@@ -3,6 +3,7 @@ use super::symbols::Kind;
 use super::symbols::mapping_named;
 use super::symbols::symbol_bits;
 use frame::Header;
+use mode::Copies;
 use std::fmt;
 
 // What a line asks for.
@@ -26,6 +27,8 @@ pub enum Command<'a> {
     Put(usize, u8),
     Cut(usize),
     Hear(usize),
+    Carry(Kind, Copies, &'a str),
+    Carried(Kind, Copies, usize),
 }
 
 // Why a line cannot be read.
@@ -36,6 +39,7 @@ pub enum Unclear {
     NoMapping,
     NoBits,
     NoSide,
+    NoCopies,
     NoText,
     TooMuch,
 }
@@ -48,6 +52,7 @@ pub impl fmt::Display for Unclear as UnclearDisplay {
             Unclear::NoMapping => f.write_str("the mappings are dbpsk, dqpsk, d8psk and gmsk"),
             Unclear::NoBits => f.write_str("the bits of a symbol are one to three digits 0 or 1"),
             Unclear::NoSide => f.write_str("the posts are sender and hearer"),
+            Unclear::NoCopies => f.write_str("a mode has 1, 2 or 4 copies"),
             Unclear::NoText => f.write_str("the PSDU is missing"),
             Unclear::TooMuch => f.write_str("there is more on the line than the command takes"),
         }
@@ -170,6 +175,23 @@ fn post_command<'a>(name: &str, words: Words<'a>) -> Result<Command<'a>, Unclear
     }
 }
 
+fn copies(word: Option<&str>) -> Result<Copies, Unclear> {
+    match Copies::new(number(word)? as usize) {
+        Ok(copies) => Ok(copies),
+        Err(_) => Err(Unclear::NoCopies),
+    }
+}
+
+// Commands on modes.
+fn mode_command<'a>(name: &str, words: Words<'a>) -> Result<Command<'a>, Unclear> {
+    let kind = mapping(words.one)?;
+    let copies = copies(words.two)?;
+    match name {
+        "carry" => Ok(Command::Carry(kind, copies, text(words.three)?)),
+        _ => Ok(Command::Carried(kind, copies, number(words.three)? as usize)),
+    }
+}
+
 // How many words a command has.
 fn size(command: &Command<'_>) -> usize {
     match command {
@@ -179,6 +201,7 @@ fn size(command: &Command<'_>) -> usize {
         Command::Retune(_) | Command::Cut(_) | Command::Hear(_) => 2,
         Command::Mix(..) | Command::Put(..) => 3,
         Command::Step(..) | Command::Read(..) | Command::Open(..) => 4,
+        Command::Carry(..) | Command::Carried(..) => 4,
         Command::Write(_) | Command::Send(..) => 5,
     }
 }
@@ -200,6 +223,7 @@ pub fn parse(line: &str) -> Result<Command<'_>, Unclear> {
         "step" | "read" => mapping_command(name, words)?,
         "header" | "spoil-header" | "read-header" => header_command(name, words)?,
         "open" | "retune" | "send" | "put" | "cut" | "hear" => post_command(name, words)?,
+        "carry" | "carried" => mode_command(name, words)?,
         _ => code_command(name, words)?,
     };
     if line.split_whitespace().count() > size(&command) {

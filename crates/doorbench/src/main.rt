@@ -1,4 +1,5 @@
 // A bench for the door radio: reads commands from standard input, one a line, does them and prints what it did.
+mod carry;
 mod command;
 mod headers;
 mod radio;
@@ -31,7 +32,9 @@ retune C        retune the sender
 send R B N TEXT send TEXT at rate R with burst mark B into a buffer of N symbols
 put I S         put symbol S at index I of the heard list
 cut N           keep the first N symbols of the heard list
-hear N          hear the list into N bytes";
+hear N          hear the list into N bytes
+carry M S BITS  carry BITS by mapping M with S copies of each coded bit: the heard list is theirs, after symbol 0
+carried M S N   hear N bits by that mode from the heard list";
 
 // What is on the bench.
 #[derive(Drop)]
@@ -62,6 +65,10 @@ fn act(rt: &LibcRuntime, bench: &mut Bench, command: Command<'_>) -> Result<(), 
             .send(rt, rt.alloc(), rate, burst, room, text.as_bytes())?,
         Command::Put(index, symbol) => bench.radio.put(rt, index, symbol)?,
         Command::Cut(length) => bench.radio.cut(rt, length)?,
+        Command::Carry(kind, copies, text) => bench
+            .radio
+            .carry(rt, rt.alloc(), kind, copies, text)?,
+        Command::Carried(kind, copies, n) => bench.radio.carried(rt, rt.alloc(), kind, copies, n)?,
         Command::Hear(room) => bench.radio.hear(rt, rt.alloc(), room)?,
     }
     Ok(())

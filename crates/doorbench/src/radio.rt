@@ -1,5 +1,10 @@
+use super::carry::bits_of;
+use super::carry::carried;
+use super::carry::carry;
+use super::symbols::Kind;
 use delivery::Delivered;
 use delivery::Fault;
+use mode::Copies;
 use plan::Band;
 use plan::BandPlan;
 use post::Post;
@@ -169,5 +174,33 @@ impl Radio {
             Err(fault) => show_fault(rt, fault)?,
         }
         Ok(())
+    }
+
+    // Carries bits by a mode; what is heard is their symbols.
+    pub fn carry(
+        &mut self,
+        rt: &impl Print,
+        heap: Global,
+        kind: Kind,
+        copies: Copies,
+        text: &str,
+    ) -> Result<(), AnyError> {
+        let Ok(bits) = bits_of(heap, text) else {
+            println!(rt, "not understood: the bits are digits 0 and 1")?;
+            return Ok(());
+        };
+        carry(rt, heap, kind, copies, &bits, &mut self.list)
+    }
+
+    // Hears bits by a mode.
+    pub fn carried(
+        &self,
+        rt: &impl Print,
+        heap: Global,
+        kind: Kind,
+        copies: Copies,
+        n: usize,
+    ) -> Result<(), AnyError> {
+        carried(rt, heap, kind, copies, n, &self.list)
     }
 }
