@@ -21,7 +21,10 @@ impl Headers {
     pub fn write(&mut self, rt: &impl Print, header: Header) -> io::Result<()> {
         let mut bits = [0u8; 19];
         if NarrowbandHeader.write(&header, &mut bits).is_err() {
-            return println!(rt, "refused: rate 0 to 3, 9 to 264 bytes, burst mark and seed 0 or 1");
+            return println!(
+                rt,
+                "refused: rate 0 to 3, 9 to 264 bytes, burst mark and seed 0 or 1"
+            );
         }
         self.heard = bits;
         let (body, check) = bits.split_at(15);
@@ -46,8 +49,16 @@ impl Headers {
         let bits = self.heard;
         match NarrowbandHeader.read(&bits, &[true; 4]) {
             Ok(header) => {
-                let Header { rate, bytes, burst, seed } = header;
-                println!(rt, "rate {rate}, {bytes} bytes, burst mark {burst}, seed {seed}")
+                let Header {
+                    rate,
+                    bytes,
+                    burst,
+                    seed,
+                } = header;
+                println!(
+                    rt,
+                    "rate {rate}, {bytes} bytes, burst mark {burst}, seed {seed}"
+                )
             }
             Err(fault) => {
                 let number = fault.number();

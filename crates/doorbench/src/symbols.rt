@@ -56,12 +56,21 @@ pub fn symbol_bits(text: &str) -> Option<&'static [u8]> {
 fn step_with<M: Mapping>(rt: &impl Print, mapping: &M, prior: u8, bits: &[u8]) -> io::Result<()> {
     match mapping.step(prior, bits) {
         Ok(next) => println!(rt, "from {prior} to {next}"),
-        Err(_) => println!(rt, "refused: no symbol of the mapping, or not as many bits as a symbol has"),
+        Err(_) => println!(
+            rt,
+            "refused: no symbol of the mapping, or not as many bits as a symbol has"
+        ),
     }
 }
 
 // Reads a step into places for the bits of one symbol.
-fn read_into<M: Mapping>(rt: &impl Print, mapping: &M, prior: u8, next: u8, bits: &mut [u8]) -> io::Result<()> {
+fn read_into<M: Mapping>(
+    rt: &impl Print,
+    mapping: &M,
+    prior: u8,
+    next: u8,
+    bits: &mut [u8],
+) -> io::Result<()> {
     match mapping.read(prior, next, bits) {
         Ok(()) => {}
         Err(ReadFault::NoSuchStep) => return println!(rt, "no such step"),

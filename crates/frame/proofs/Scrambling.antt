@@ -13,7 +13,8 @@ use Rattle.std.proofs.shelf.Lists.{append-nil, append-assoc, length-append, tak
 use Rattle.std.proofs.shelf.Parts.{take-putMid}
 use Rattle.bits.specs.Strings.{Bit, Bits}
 use Rattle.frame.specs.Numbers.{low-bits, number-of, Byte, byte-bits}
-use Rattle.frame.specs.Scrambler.{keystream, masked, scrambled, mask, Holds}
+use Rattle.frame.specs.Registers.{mask, Holds}
+use Rattle.frame.specs.Scrambler.{keystream, masked, scrambled}
 use Rattle.frame.specs.Laws.{Scrambling-is-invertible}
 use Rattle.frame.proofs.Numbering.{append-bits, take-bits, drop-bits, resized, low-bits-bits, number-low, number-below, low-number}
 use Rattle.frame.proofs.Sequence.{keystream-bit}

@@ -17,7 +17,8 @@ use Rattle.std.proofs.shelf.Lists.{getD-take, take-all}
 use Rattle.std.proofs.shelf.Elements.{all-take}
 use Rattle.bits.specs.Strings.{Bit, Bits}
 use Rattle.frame.specs.Numbers.{low-bits, number-of}
-use Rattle.frame.specs.Scrambler.{start, next, before, keystream, mask, Holds}
+use Rattle.frame.specs.Registers.{mask, Holds}
+use Rattle.frame.specs.Scrambler.{start, next, before, keystream}
 use Rattle.frame.specs.Laws.{Recurs, Keystream-recurs}
 use Rattle.frame.proofs.Numbering.{number-push, number-take-more, number-below, bit-of-number, low-bits-bits, take-bits, cons-bits, resized}
 

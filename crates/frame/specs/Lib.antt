@@ -3,6 +3,7 @@ pub mod Headers
 pub mod Narrowband
 pub mod Refusals
 pub mod Scrambler
+pub mod Registers
 pub mod Answers
 pub mod Laws
 pub mod Examples

@@ -1,12 +1,10 @@
 -- The scrambler: a sequence x of bits, which a seed fixes, is added to the bits of the PSDU modulo 2.
-use mathlib.Core.Path.{_≡_}
 use mathlib.Core.Bool.{cond}
-use mathlib.Core.List.{List, [], _∷_, map}
+use mathlib.Core.List.{List, [], _∷_}
 use Prim.Native.Nat.{ℕ, zero, suc, _+_, _%_}
 use lib.Dec.{eqb}
-use lib.ListN.{getD, take}
-use Rattle.std.specs.Iters.{counting}
-use Rattle.frame.specs.Numbers.{number-of, byte-bits}
+use lib.ListN.{getD}
+use Rattle.frame.specs.Numbers.{byte-bits}
 
 -- x[−1] to x[−14], in this order
 abbrev pub start : ℕ → List ℕ
@@ -36,11 +34,3 @@ masked x n (b ∷ bs) = (b + x n) % 2 ∷ masked x (n + 1) bs
 -- the scrambled bits of bytes
 abbrev pub scrambled : ℕ → List ℕ → List ℕ
 scrambled seed bytes = masked (keystream seed) 0 (byte-bits bytes)
-
--- a register holds the fourteen values before x[n], x[n−1] in its lowest bit
-abbrev pub Holds : ℕ → ℕ → ℕ → Type 0
-Holds seed n register = register ≡ number-of (take 14 (before seed n))
-
--- x[n] to x[n+w−1] as a number, x[n] its lowest bit
-unfoldable pub mask : ℕ → ℕ → ℕ → ℕ
-mask seed n w = number-of (map (keystream seed) (counting n w))

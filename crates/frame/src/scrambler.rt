@@ -1,7 +1,8 @@
 // The scrambler of a PSDU.
 ghost use mathlib.Core.Path.{_≡_};
 ghost use Prim.Native.Nat.{ℕ, _+_, _<_};
-ghost use Rattle.frame.specs.Scrambler.{keystream, mask, Holds};
+ghost use Rattle.frame.specs.Registers.{mask, Holds};
+ghost use Rattle.frame.specs.Scrambler.{keystream};
 ghost use Rattle.frame.specs.Answers.{Scrambles, Unscrambles};
 use crate::numbers::number_of;
 use crate::numbers::put_low_bits;

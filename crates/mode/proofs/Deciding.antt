@@ -83,7 +83,7 @@ pub decided-more : (s : ℕ) (es ws : List ℕ) (i a r : ℕ) → Decided s es w
 decided-more s es ws i a r h l e =
     let n : length ws - i ≡ suc (length ws - (i + 1)) = omega arith in
     let z : take (i + 1) (set ws i r) ++ decided s (length ws - (i + 1)) (drop (a + s) es) ≡ take i ws ++ decided s (length ws - i) (drop a es) =
-      rw (take-more-set ws i r l, n, drop-drop, ← e) (append-assoc (take i ws) (r ∷ []) (decided s (length ws - (i + 1)) (drop (a + s) es))) in
+    rw (take-more-set ws i r l, n, drop-drop, ← e) (append-assoc (take i ws) (r ∷ []) (decided s (length ws - (i + 1)) (drop (a + s) es))) in
     record { at = omega (arith, h .at); put = rw length-set (z ∙ h .put) }
 
 pub decided-all : (s : ℕ) (es ws : List ℕ) (n i a : ℕ) → length ws ≡ n → n ≤ i → Decided s es ws i a → ws ≡ decided s n es
@@ -92,11 +92,11 @@ decided-all s es ws n i a e l h =
     sym (append-nil ws) ∙ ap (λ us. us ++ []) (sym (take-all i ws (omega arith))) ∙ ap (λ j. take i ws ++ decided s j (drop a es)) (sym z) ∙ h .put ∙ ap (λ j. decided s j es) e
 
 pub spoilt-yes : (s : ℕ) (ws es : List ℕ) (i a : ℕ) → i < length ws → s ≤ 2 * differing (getD ws i 0) (take s (drop a es))
-  → spoilt s (drop i ws) (drop a es) ≡ 1 + spoilt s (drop (i + 1) ws) (drop (a + s) es)
+    → spoilt s (drop i ws) (drop a es) ≡ 1 + spoilt s (drop (i + 1) ws) (drop (a + s) es)
 spoilt-yes s ws es i a l h = at-drop-more (λ us. spoilt s us (drop a es)) ws i 0 l ∙ rw (le-leb s (2 * differing (getD ws i 0) (take s (drop a es))) h, drop-drop)
 
 pub spoilt-no : (s : ℕ) (ws es : List ℕ) (i a : ℕ) → i < length ws → 2 * differing (getD ws i 0) (take s (drop a es)) < s
-  → spoilt s (drop i ws) (drop a es) ≡ spoilt s (drop (i + 1) ws) (drop (a + s) es)
+    → spoilt s (drop i ws) (drop a es) ≡ spoilt s (drop (i + 1) ws) (drop (a + s) es)
 spoilt-no s ws es i a l h = at-drop-more (λ us. spoilt s us (drop a es)) ws i 0 l ∙ rw (lt-leb s (2 * differing (getD ws i 0) (take s (drop a es))) h, drop-drop) (omega arith)
 
 pub spoilt-end : (s : ℕ) (ws es : List ℕ) (i : ℕ) → length ws ≤ i → spoilt s (drop i ws) es ≡ 0
@@ -122,23 +122,25 @@ module _ (hs : List AirBit) where
 
   pub low-other : (i r : ℕ) → Low hs i r → i < length hs → getD hs i none .symbol < r → Low hs (i + 1) (getD hs i none .symbol)
   low-other i r h l m = record {
-      place = i;
-      there = l;
-      is = sym (symbol-is hs i);
-      least = λ k b. elim (cases-eq k i) [
-        inl e ↦ omega (arith, symbol-is hs i, ap (λ j. getD (symbols-of hs) j 0) e)
-      | inr n ↦ omega (arith, h .least k (omega arith)) ];
-    }
+    place = i;
+    there = l;
+    is = sym (symbol-is hs i);
+    least = λ k b. elim (cases-eq k i) [
+      | inl e ↦ omega (arith, symbol-is hs i, ap (λ j. getD (symbols-of hs) j 0) e)
+      | inr n ↦ omega (arith, h .least k (omega arith))
+    ];
+  }
 
   pub low-same : (i r : ℕ) → Low hs i r → r ≤ getD hs i none .symbol → Low hs (i + 1) r
   low-same i r h m = record {
-      place = h .place;
-      there = h .there;
-      is = h .is;
-      least = λ k b. elim (cases-eq k i) [
-        inl e ↦ omega (arith, symbol-is hs i, ap (λ j. getD (symbols-of hs) j 0) e)
-      | inr n ↦ h .least k (omega arith) ];
-    }
+    place = h .place;
+    there = h .there;
+    is = h .is;
+    least = λ k b. elim (cases-eq k i) [
+      | inl e ↦ omega (arith, symbol-is hs i, ap (λ j. getD (symbols-of hs) j 0) e)
+      | inr n ↦ h .least k (omega arith)
+    ];
+  }
 
   pub low-all : (i r : ℕ) → Low hs i r → length hs ≤ i → Lowest hs r
   low-all i r h l = record { place = h .place; there = h .there; is = h .is; least = λ k b. h .least k (omega arith) }

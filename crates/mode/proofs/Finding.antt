@@ -91,8 +91,8 @@ module _ (c : Code) (s : ℕ) where
 
   -- one more word within reach
   within-push : (us : List ℕ) (u : ℕ) (xs ys es : List ℕ) → length xs ≡ carried (c .k) us → length ys ≡ c .k - u → Within c s us xs es
-    → spoilt s (word (shortened c u) ys) (drop (s * sized c us) es) ≤ c .t
-    → Within c s (us ++ u ∷ []) (xs ++ ys) es × (spoilt-all c s (us ++ u ∷ []) (xs ++ ys) es ≡ spoilt-all c s us xs es + spoilt s (word (shortened c u) ys) (drop (s * sized c us) es))
+      → spoilt s (word (shortened c u) ys) (drop (s * sized c us) es) ≤ c .t
+      → Within c s (us ++ u ∷ []) (xs ++ ys) es × (spoilt-all c s (us ++ u ∷ []) (xs ++ ys) es ≡ spoilt-all c s us xs es + spoilt s (word (shortened c u) ys) (drop (s * sized c us) es))
   within-push [] u xs ys es a b w l =
       let e : xs ++ ys ≡ ys = ap (λ zs. zs ++ ys) (nil-from-length xs a) in
       let t : take (c .k - u) ys ≡ ys = take-all (c .k - u) ys (omega arith) in
@@ -153,15 +153,15 @@ pub record Hearing (c : Code) (s : ℕ) (es os : List ℕ) (n j from at total : 
 
 pub hearing-none : (c : Code) (s : ℕ) (es os : List ℕ) (n : ℕ) → 0 < c .k → s * sized c (unsents (c .k) n) ≤ length es → Hearing c s es os n 0 0 0 0
 hearing-none c s es os n p l = record {
-    read = omega (arith, carried-unsents (c .k) n p);
-    sent = refl;
-    place = omega arith;
-    left = omega arith;
-    bits = tt;
-    within = tt;
-    counts = refl;
-    few = omega arith;
-  }
+  read = omega (arith, carried-unsents (c .k) n p);
+  sent = refl;
+  place = omega arith;
+  left = omega arith;
+  bits = tt;
+  within = tt;
+  counts = refl;
+  few = omega arith;
+}
 
 -- the next word: its unsent bits are fewer than k, its message has room, and its copies are there
 pub record Next (c : Code) (s : ℕ) (es : List ℕ) (n j from at m u : ℕ) : Type 0 where
@@ -175,7 +175,7 @@ pub record Next (c : Code) (s : ℕ) (es : List ℕ) (n j from at m u : ℕ) : T
   pub fits : at + s * (m + c .p) ≤ length es
 
 pub next : (c : Code) (s : ℕ) (es os : List ℕ) (n j from at total i k m u : ℕ) → 0 < c .k → Hearing c s es os n j from at total → k ≡ c .k → i ≡ words k n → j < i → m ≡ k - unsent k n j → u ≡ unsent k n j
-  → Next c s es n j from at m u
+    → Next c s es n j from at m u
 next c s es os n j from at total i k m u p h e w l x y =
     let a : j < words (c .k) n = rw (w, e) at l in
     let f : u ≡ unsent (c .k) n j = rw e at y in
@@ -211,7 +211,7 @@ module _ (c : Code) (L : codes.Lawful c) (s : ℕ) (es os : List ℕ) (n j from 
       omega (arith, h .few, count-few ms r k, x .there, L .short)
 
   pub hearing-more : (ms cs : List ℕ) (r : ℕ) → NearWord (shortened c u) s (take (s * (m + c .p)) (drop at es)) ms r → take (from + m) cs ≡ take from os ++ ms → from ≤ length os
-    → Hearing c s es cs n (j + 1) (from + m) (at + s * (m + c .p)) (total + r)
+      → Hearing c s es cs n (j + 1) (from + m) (at + s * (m + c .p)) (total + r)
   hearing-more ms cs r k t fo =
       let U = unsents (c .k) n in
       let near = near-whole c s L u (x .below) (drop at es) (s * (m + c .p)) size copies ms r k in
@@ -247,7 +247,7 @@ module _ (c : Code) (L : codes.Lawful c) (s : ℕ) (es os : List ℕ) (n j from 
       }
 
 pub hearing-all : (c : Code) (s : ℕ) (es os : List ℕ) (n j from at total i k : ℕ) → Hearing c s es os n j from at total → k ≡ c .k → i ≡ words k n → i ≤ j → length os ≡ n
-  → Bits n os × Within c s (unsents (c .k) n) os es × (spoilt-all c s (unsents (c .k) n) os es ≡ total)
+    → Bits n os × Within c s (unsents (c .k) n) os es × (spoilt-all c s (unsents (c .k) n) os es ≡ total)
 hearing-all c s es os n j from at total i k h e w l o =
     let U = unsents (c .k) n in
     let f : i ≡ words (c .k) n = rw e at w in
@@ -266,7 +266,7 @@ copies-some c s es n j from at m u p x =
 
 -- the lowest symbol of the copies that the code cuts out
 pub lowest-at : (c : Code) (s : ℕ) (es os : List ℕ) (hs : List AirBit) (n j from at total m u p r : ℕ) → Hearing c s es os n j from at total → Next c s es n j from at m u → p ≡ c .p
-  → Lowest (take (at + s * (m + p) - at) (drop at hs)) r → Lowest (take (s * (c .k - unsent (c .k) n j + c .p)) (drop (s * sized c (take j (unsents (c .k) n))) hs)) r
+    → Lowest (take (at + s * (m + p) - at) (drop at hs)) r → Lowest (take (s * (c .k - unsent (c .k) n j + c .p)) (drop (s * sized c (take j (unsents (c .k) n))) hs)) r
 lowest-at c s es os hs n j from at total m u p r h x e l =
     let a : at + s * (m + p) - at ≡ s * (m + p) = omega arith in
     let b : s * (m + p) ≡ s * (c .k - unsent (c .k) n j + c .p) = ap (λ q. s * (m + q)) e ∙ ap (λ q. s * (q + c .p)) (x .bits ∙ ap (λ q. c .k - q) (x .unsent)) in

@@ -46,7 +46,7 @@ module _ (m : Mode) (L : Lawful m) (at n j : ℕ) (two : 2 ≤ n) (jl : j < word
 
   -- the symbol of a copy of the word
   symbol-at : (q : ℕ) → q < m .copies * (m .code .k - unsent (m .code .k) n j + m .code .p)
-    → getD (symbols-of (take (m .copies * (m .code .k - unsent (m .code .k) n j + m .code .p)) (drop (m .copies * start m n j) (deinterleaved (m .copies) (total m n) (labelled (m .map .w) 0 bs))))) q 0
+      → getD (symbols-of (take (m .copies * (m .code .k - unsent (m .code .k) n j + m .code .p)) (drop (m .copies * start m n j) (deinterleaved (m .copies) (total m n) (labelled (m .map .w) 0 bs))))) q 0
       ≡ back (m .copies) (total m n) (m .copies * start m n j + q) / m .map .w
   symbol-at q l =
       symbol-cut (deinterleaved (m .copies) (total m n) (labelled (m .map .w) 0 bs)) (m .copies * start m n j) (m .copies * (m .code .k - unsent (m .code .k) n j + m .code .p)) q l
@@ -60,7 +60,7 @@ module _ (m : Mode) (L : Lawful m) (at n j : ℕ) (two : 2 ≤ n) (jl : j < word
 
   -- no copy of the word stands with a lower symbol
   none-below : (r : ℕ) → Lowest (take (m .copies * (m .code .k - unsent (m .code .k) n j + m .code .p)) (drop (m .copies * start m n j) (deinterleaved (m .copies) (total m n) (labelled (m .map .w) 0 bs)))) r
-    → (i : ℕ) (h : Holds m at n j i) → r ≤ h .copy / m .map .w
+      → (i : ℕ) (h : Holds m at n j i) → r ≤ h .copy / m .map .w
   none-below r low i h =
       let s = m .copies in
       let t = total m n in
@@ -79,7 +79,7 @@ module _ (m : Mode) (L : Lawful m) (at n j : ℕ) (two : 2 ≤ n) (jl : j < word
       omega (arith, low .least (x - s * start m n j) (omega (arith, cut-long)), symbol-at (x - s * start m n j) q, ap (λ c. back s t c / m .map .w) y, z)
 
   pub lowest-holds : (r : ℕ) → Lowest (take (m .copies * (m .code .k - unsent (m .code .k) n j + m .code .p)) (drop (m .copies * start m n j) (deinterleaved (m .copies) (total m n) (labelled (m .map .w) 0 bs)))) r
-    → First (Holds m at n j) (at + 1 + count m n) (at + 1 + r)
+      → First (Holds m at n j) (at + 1 + count m n) (at + 1 + r)
   lowest-holds r low =
       let s = m .copies in
       let t = total m n in
@@ -133,13 +133,13 @@ module _ (m : Mode) (L : Lawful m) (list : List ℕ) (at n : ℕ) (t : There m l
 
     pub heard-reach : (after : List ℕ) (c : ℕ) → HearsWords (m .code) (m .copies) hs n after (Ok c) → Reach m list at n after c
     heard-reach after c h = record {
-        there = t;
-        valid = h .0;
-        bits = bs;
-        read = r;
-        within = rw heard-as at (h .1);
-        counts = rw heard-as at (h .2);
-      }
+      there = t;
+      valid = h .0;
+      bits = bs;
+      read = r;
+      within = rw heard-as at (h .1);
+      counts = rw heard-as at (h .2);
+    }
 
     pub heard-lost : (after : List ℕ) (c : ℕ) → HearsWords (m .code) (m .copies) hs n after (Err c) → Faulty m list at n (Word (at + 1 + c))
     heard-lost after c h =
@@ -162,11 +162,11 @@ pub record Heardable (s : ℕ) (hs : List AirBit) (n : ℕ) : Type 0 where
 
 pub heardable : (m : Mode) → Lawful m → (n s k : ℕ) (hs : List AirBit) → Carried n → s ≡ m .copies → k ≡ m .copies * total m n → length hs ≡ k → Heardable s hs k
 heardable m L n s k hs o e f g = record {
-    copied = rw (e, g ∙ f) (copied-at (m .copies) (total m n) (several m L) (total-enough m L n (o .low)));
-    small = omega (arith, few-copies m L);
-    few = omega (arith, air-few m L n (o .high));
-    room = g;
-  }
+  copied = rw (e, g ∙ f) (copied-at (m .copies) (total m n) (several m L) (total-enough m L n (o .low)));
+  small = omega (arith, few-copies m L);
+  few = omega (arith, air-few m L n (o .high));
+  room = g;
+}
 
 -- the same part, where its count of bits is held as the code has it
 pub there-at : (m : Mode) (list : List ℕ) (at n k : ℕ) → k ≡ n → There m list at n → There m list at k

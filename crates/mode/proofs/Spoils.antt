@@ -152,5 +152,6 @@ spoilt-le s [] es = omega arith
 spoilt-le s (b ∷ ws) es =
     let ih = spoilt-le s ws (drop s es) in
     elim (cases-lt (2 * differing b (take s es)) s) [
-      inl l ↦ rw (lt-leb s (2 * differing b (take s es)) l) (omega arith)
-    | inr l ↦ rw (le-leb s (2 * differing b (take s es)) l) (omega arith) ]
+      | inl l ↦ rw (lt-leb s (2 * differing b (take s es)) l) (omega arith)
+      | inr l ↦ rw (le-leb s (2 * differing b (take s es)) l) (omega arith)
+    ]

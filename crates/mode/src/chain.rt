@@ -30,6 +30,7 @@ use mapping::Mapping;
 
 // The most bits that are carried at a time, and the most coded bits for them: 132 words of 63 bits, and two zeros.
 const MAX_BITS: usize = 2112;
+
 const MAX_CODED: usize = 8318;
 
 impl Copies {
@@ -116,7 +117,14 @@ impl<C: RoomyCode, M: Mapping> Chain<C, M> {
     }
 
     // Hears the bits of a part, which has so many symbols after index `at` of the list, by way of their copies.
-    fn hear_part(&self, list: &[u8], at: usize, count: usize, heard: &mut [AirBit], bits: &mut [u8]) -> Result<usize, PartFault>
+    fn hear_part(
+        &self,
+        list: &[u8],
+        at: usize,
+        count: usize,
+        heard: &mut [AirBit],
+        bits: &mut [u8],
+    ) -> Result<usize, PartFault>
         requires there { ⌜ There (chained (C·BlockCode .code (now self .code)) (now self .copies) (M·Mapping .map)) (now list) at (length (now bits)) ⌝ }
         requires symbols { ⌜ count ≡ countOf (chained (C·BlockCode .code (now self .code)) (now self .copies) (M·Mapping .map)) (length (now bits)) ⌝ }
         requires room { ⌜ length (now heard) ≡ count * M·Mapping .map .w ⌝ }

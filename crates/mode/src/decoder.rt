@@ -112,7 +112,14 @@ fn take_copies(copies: usize, w: usize, bits: &[u8], output: &mut [AirBit])
 }
 
 // Reads so many symbols after index `at` of the list, and puts the copies of each bit in a row.
-pub(crate) fn hear_copies<M: Mapping>(mapping: &M, copies: usize, list: &[u8], at: usize, count: usize, heard: &mut [AirBit]) -> Result<(), PartFault>
+pub(crate) fn hear_copies<M: Mapping>(
+    mapping: &M,
+    copies: usize,
+    list: &[u8],
+    at: usize,
+    count: usize,
+    heard: &mut [AirBit],
+) -> Result<(), PartFault>
     requires there { ⌜ at + 1 + count ≤ length (now list) ⌝ }
     requires copied { ⌜ Copied copies (length (now heard)) ⌝ }
     requires small { ⌜ copies ≤ 4 ⌝ }
@@ -204,7 +211,12 @@ fn lowest(heard: &[AirBit]) -> u16
 
 // Decides the bits of a word and corrects them, and counts which are spoilt. A word with more spoilt bits than the code
 // corrects is none.
-fn hear_word<C: BlockCode>(code: &C, copies: usize, heard: &[AirBit], word: &mut [u8]) -> Option<usize>
+fn hear_word<C: BlockCode>(
+    code: &C,
+    copies: usize,
+    heard: &[AirBit],
+    word: &mut [u8],
+) -> Option<usize>
     requires several { ⌜ 0 < copies ⌝ }
     requires bits { ⌜ All Bit (bitsOf (now heard)) ⌝ }
     requires size { ⌜ length (now word) ≡ C·BlockCode .code (now code) .k + C·BlockCode .code (now code) .p ⌝ }
@@ -216,15 +228,17 @@ fn hear_word<C: BlockCode>(code: &C, copies: usize, heard: &[AirBit], word: &mut
         return None;
     };
     let n = spoilt(copies, word, heard);
-    if n > code.reach() {
-        None
-    } else {
-        Some(n)
-    }
+    if n > code.reach() { None } else { Some(n) }
 }
 
 // Hears the message of a word in the code shortened by the unsent bits.
-fn hear_message<C: BlockCode>(code: &C, unsent: usize, copies: usize, heard: &[AirBit], message: &mut [u8]) -> Option<usize>
+fn hear_message<C: BlockCode>(
+    code: &C,
+    unsent: usize,
+    copies: usize,
+    heard: &[AirBit],
+    message: &mut [u8],
+) -> Option<usize>
     requires short { ⌜ unsent < C·BlockCode .code (now code) .k ⌝ }
     requires several { ⌜ 0 < copies ⌝ }
     requires bits { ⌜ All Bit (bitsOf (now heard)) ⌝ }
@@ -247,7 +261,12 @@ fn hear_message<C: BlockCode>(code: &C, unsent: usize, copies: usize, heard: &[A
 
 // Hears the bits that all words carry, and counts which bits of the words are spoilt. If a word is lost, the answer is
 // the lowest symbol that carried one of its bits.
-pub(crate) fn hear_words<C: BlockCode>(code: &C, copies: usize, heard: &[AirBit], bits: &mut [u8]) -> Result<usize, u16>
+pub(crate) fn hear_words<C: BlockCode>(
+    code: &C,
+    copies: usize,
+    heard: &[AirBit],
+    bits: &mut [u8],
+) -> Result<usize, u16>
     requires carried { ⌜ Carried (length (now bits)) ⌝ }
     requires several { ⌜ 0 < copies ⌝ }
     requires heard_bits { ⌜ All Bit (bitsOf (now heard)) ⌝ }
@@ -266,7 +285,8 @@ pub(crate) fn hear_words<C: BlockCode>(code: &C, copies: usize, heard: &[AirBit]
         };
         let to = from + m;
         let end = at + copies * (m + p);
-        let Some(count) = hear_message(code, unsent, copies, &heard[at..end], &mut bits[from..to]) else {
+        let Some(count) = hear_message(code, unsent, copies, &heard[at..end], &mut bits[from..to])
+        else {
             return Err(lowest(&heard[at..end]));
         };
         total += count;

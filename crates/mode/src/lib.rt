@@ -21,7 +21,13 @@ pub use chain::Chain;
 pub use chain::ChainCarrier;
 pub use choice::Choice;
 pub use copies::Copies;
+pub use copies::CopiesDebug;
+pub use copies::CopiesPartialEq;
 pub use fault::HearFault;
+pub use fault::HearFaultDebug;
+pub use fault::HearFaultFromBadCall;
+pub use fault::HearFaultFromPart;
+pub use fault::HearFaultPartialEq;
 pub use fault::PartFault;
 pub use fault::PartFaultDebug;
 pub use fault::PartFaultPartialEq;
@@ -44,6 +50,7 @@ impl PartFault {
         }
     }
 
+    // The index of the list at which the fault stands.
     pub fn place(&self) -> usize
         ensures { λ r. ⌜ r ≡ place (now (self .entry)) ⌝ }
     {
@@ -55,9 +62,32 @@ impl PartFault {
     }
 }
 
+impl HearFault {
+    pub fn number(&self) -> u16
+        ensures { λ r. ⌜ r ≡ hearNumber (now (self .entry)) ⌝ }
+    {
+        match self {
+            HearFault::Part(f) => f.number(),
+            HearFault::Call(e) => e.number(),
+        }
+    }
+
+    pub fn place(&self) -> usize
+        ensures { λ r. ⌜ r ≡ hearPlace (now (self .entry)) ⌝ }
+    {
+        match self {
+            HearFault::Part(f) => f.place(),
+            HearFault::Call(e) => usize::from(e.place()),
+        }
+    }
+}
+
 // How many worked examples are stated, and that they hold by the rules.
 pub fn worked_examples() -> usize
     ensures { λ r. ⌜ (r ≡ 6) × Examples ⌝ }
 {
     6
 }
+
+#[cfg(test)]
+mod tests;

@@ -148,9 +148,10 @@ module _ (P : Plan) (L : Lawful P) (m : Mode) (f : Form) (em : m ≡ P .header) 
             pub payload-faulty : (e : PayloadFault) → PayloadReads n (hd .seed) list h (take (hd .bytes - 0) output) after (Err e)
                 → PayloadFaulty P list e × (after ++ drop (hd .bytes - 0) output ≡ output)
             payload-faulty (Length i) x = absurd x
-            payload-faulty (PayloadPart e) (x, y) =
-                ((fields-of hd, n, said, whole ∙ needed-is, subst (λ i. Faulty n list i (8 * hd .bytes) e) head-is (subst (λ i. Faulty n list h (8 * i) e) places x)),
-                 ap (λ zs. zs ++ drop (hd .bytes - 0) output) y ∙ take-append-drop (hd .bytes - 0) output)
+            payload-faulty (PayloadPart e) (x, y) = (
+              (fields-of hd, n, said, whole ∙ needed-is, subst (λ i. Faulty n list i (8 * hd .bytes) e) head-is (subst (λ i. Faulty n list h (8 * i) e) places x)),
+              ap (λ zs. zs ++ drop (hd .bytes - 0) output) y ∙ take-append-drop (hd .bytes - 0) output,
+            )
 
             module _ (q : ℕ) (x : PayloadReads n (hd .seed) list h (take (hd .bytes - 0) output) after (Ok q)) where
               size : length after ≡ hd .bytes

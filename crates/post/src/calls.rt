@@ -41,7 +41,11 @@ impl<P: RadioPlan> Post<P> {
         if channel > plan.last_channel() {
             return Err(Fault::Channel);
         }
-        Ok(Post { plan, channel, seed: 0 })
+        Ok(Post {
+            plan,
+            channel,
+            seed: 0,
+        })
     }
 
     // Changes the channel alone.
@@ -57,7 +61,13 @@ impl<P: RadioPlan> Post<P> {
     }
 
     // Sends a frame: writes its symbols to the front of the buffer, answers their count and flips the seed.
-    pub fn send(&mut self, rate: u32, burst: u32, psdu: &[u8], symbols: &mut [u8]) -> Result<usize, Fault>
+    pub fn send(
+        &mut self,
+        rate: u32,
+        burst: u32,
+        psdu: &[u8],
+        symbols: &mut [u8],
+    ) -> Result<usize, Fault>
         ensures plan { λ _. ⌜ now (self .exit) .plan ≡ now (self .entry) .plan ⌝ }
         ensures sends { λ r. ⌜ Sends (P·RadioPlan .plan (now (self .entry) .plan)) (record { channel = now (self .entry) .channel; seed = now (self .entry) .seed }) (record { rate = rate; burst = burst; psdu = now (psdu .entry) }) (now (symbols .entry)) (record { channel = now (self .exit) .channel; seed = now (self .exit) .seed }) (now (symbols .exit)) r ⌝ }
     {
@@ -80,9 +90,24 @@ impl<P: RadioPlan> Post<P> {
         if symbols.len() < needed {
             return Err(Fault::Buffer(needed));
         }
-        let header = Header { rate: rate as u8, bytes: psdu.len(), burst: burst as u8, seed: self.seed };
+        let header = Header {
+            rate: rate as u8,
+            bytes: psdu.len(),
+            burst: burst as u8,
+            seed: self.seed,
+        };
         let preamble = self.plan.preamble(self.channel);
-        write_frame(&form, &mode, &payload, self.plan.start(), &preamble, &header, psdu, head, &mut symbols[0..needed]);
+        write_frame(
+            &form,
+            &mode,
+            &payload,
+            self.plan.start(),
+            &preamble,
+            &header,
+            psdu,
+            head,
+            &mut symbols[0..needed],
+        );
         self.seed = 1 - self.seed;
         Ok(needed)
     }
@@ -112,13 +137,24 @@ impl<P: RadioPlan> Post<P> {
             return Err(Fault::Payload(PayloadFault::Length(needed)));
         }
         let more = read_payload(&payload, header.seed, list, head, &mut output[0..bytes])?;
-        Ok(Delivered { rate: header.rate, burst: header.burst, seed: header.seed, bytes, spoilt: spoilt + more })
+        Ok(Delivered {
+            rate: header.rate,
+            burst: header.burst,
+            seed: header.seed,
+            bytes,
+            spoilt: spoilt + more,
+        })
     }
 
     // For each rate, whether the plan has a mode.
     fn legal_rates(&self) -> [bool; 4]
         ensures { λ r. ⌜ r ≡ legal (P·RadioPlan .plan (now (self .entry) .plan)) ⌝ }
     {
-        [self.plan.payload(0).is_some(), self.plan.payload(1).is_some(), self.plan.payload(2).is_some(), self.plan.payload(3).is_some()]
+        [
+            self.plan.payload(0).is_some(),
+            self.plan.payload(1).is_some(),
+            self.plan.payload(2).is_some(),
+            self.plan.payload(3).is_some(),
+        ]
     }
 }

@@ -48,7 +48,13 @@ fn formed(answer: Result<Header, ReadHeaderFault>) -> Result<Header, FormFault>
 }
 
 // Reads the header of a list; `bits` is room for its bits.
-fn hear_header<F: HeaderForm, C: Carrier>(form: &F, mode: &C, list: &[u8], legal: &[bool; 4], bits: &mut [u8]) -> Result<(Header, usize), HeaderFault>
+fn hear_header<F: HeaderForm, C: Carrier>(
+    form: &F,
+    mode: &C,
+    list: &[u8],
+    legal: &[bool; 4],
+    bits: &mut [u8],
+) -> Result<(Header, usize), HeaderFault>
     requires places { ⌜ length (now bits) ≡ bitsOf (F·HeaderForm .form) ⌝ }
     requires there { ⌜ There (C·Carrier .mode (now mode)) (now list) 0 (bitsOf (F·HeaderForm .form)) ⌝ }
     ensures { λ r. ⌜ HeaderReads (F·HeaderForm .form) (C·Carrier .mode (now (mode .entry))) (now (legal .entry)) (now (list .entry)) r ⌝ }
@@ -58,7 +64,12 @@ fn hear_header<F: HeaderForm, C: Carrier>(form: &F, mode: &C, list: &[u8], legal
     Ok((header, spoilt))
 }
 
-pub fn read_header<F: HeaderForm, C: Carrier>(form: &F, mode: &C, list: &[u8], legal: &[bool; 4]) -> Result<(Header, usize), HeaderFault>
+pub fn read_header<F: HeaderForm, C: Carrier>(
+    form: &F,
+    mode: &C,
+    list: &[u8],
+    legal: &[bool; 4],
+) -> Result<(Header, usize), HeaderFault>
     requires { ⌜ There (C·Carrier .mode (now mode)) (now list) 0 (bitsOf (F·HeaderForm .form)) ⌝ }
     ensures { λ r. ⌜ HeaderReads (F·HeaderForm .form) (C·Carrier .mode (now (mode .entry))) (now (legal .entry)) (now (list .entry)) r ⌝ }
 {
@@ -68,7 +79,14 @@ pub fn read_header<F: HeaderForm, C: Carrier>(form: &F, mode: &C, list: &[u8], l
 }
 
 // Reads the payload of a list after index `at`; `bits` is room for its bits.
-fn hear_payload<C: Carrier>(mode: &C, seed: u8, list: &[u8], at: usize, bits: &mut [u8], psdu: &mut [u8]) -> Result<usize, PayloadFault>
+fn hear_payload<C: Carrier>(
+    mode: &C,
+    seed: u8,
+    list: &[u8],
+    at: usize,
+    bits: &mut [u8],
+    psdu: &mut [u8],
+) -> Result<usize, PayloadFault>
     requires seed { ⌜ seed < 2 ⌝ }
     requires places { ⌜ length (now bits) ≡ 8 * length (now psdu) ⌝ }
     requires there { ⌜ There (C·Carrier .mode (now mode)) (now list) at (8 * length (now psdu)) ⌝ }
@@ -79,7 +97,13 @@ fn hear_payload<C: Carrier>(mode: &C, seed: u8, list: &[u8], at: usize, bits: &m
     Ok(spoilt)
 }
 
-pub fn read_payload<C: Carrier>(mode: &C, seed: u8, list: &[u8], at: usize, psdu: &mut [u8]) -> Result<usize, PayloadFault>
+pub fn read_payload<C: Carrier>(
+    mode: &C,
+    seed: u8,
+    list: &[u8],
+    at: usize,
+    psdu: &mut [u8],
+) -> Result<usize, PayloadFault>
     requires seed { ⌜ seed < 2 ⌝ }
     requires there { ⌜ There (C·Carrier .mode (now mode)) (now list) at (8 * length (now psdu)) ⌝ }
     ensures { λ r. ⌜ PayloadReads (C·Carrier .mode (now (mode .entry))) seed (now (list .entry)) at (now (psdu .entry)) (now (psdu .exit)) r ⌝ }

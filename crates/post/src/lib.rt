@@ -5,3 +5,6 @@ pub mod post;
 mod sending;
 
 pub use post::Post;
+
+#[cfg(test)]
+mod tests;

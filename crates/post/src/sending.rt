@@ -34,7 +34,14 @@ pub fn write_preamble<C: Carrier>(mode: &C, start: u8, bits: &[u8], symbols: &mu
 }
 
 // Writes the symbols of a header after the prior symbol; `bits` is room for its bits.
-fn carry_header<F: HeaderForm, C: Carrier>(form: &F, mode: &C, header: &Header, prior: u8, bits: &mut [u8], symbols: &mut [u8])
+fn carry_header<F: HeaderForm, C: Carrier>(
+    form: &F,
+    mode: &C,
+    header: &Header,
+    prior: u8,
+    bits: &mut [u8],
+    symbols: &mut [u8],
+)
     requires ranges { ⌜ InRange (F·HeaderForm .form) (fieldsOf (now header)) ⌝ }
     requires size { ⌜ Carried (bitsOf (F·HeaderForm .form)) ⌝ }
     requires known { ⌜ prior < C·Carrier .mode (now mode) .map .q ⌝ }
@@ -46,7 +53,13 @@ fn carry_header<F: HeaderForm, C: Carrier>(form: &F, mode: &C, header: &Header, 
     let _ = mode.send(prior, bits, symbols);
 }
 
-pub fn write_header<F: HeaderForm, C: Carrier>(form: &F, mode: &C, header: &Header, prior: u8, symbols: &mut [u8])
+pub fn write_header<F: HeaderForm, C: Carrier>(
+    form: &F,
+    mode: &C,
+    header: &Header,
+    prior: u8,
+    symbols: &mut [u8],
+)
     requires ranges { ⌜ InRange (F·HeaderForm .form) (fieldsOf (now header)) ⌝ }
     requires size { ⌜ Carried (bitsOf (F·HeaderForm .form)) ⌝ }
     requires known { ⌜ prior < C·Carrier .mode (now mode) .map .q ⌝ }
@@ -59,7 +72,14 @@ pub fn write_header<F: HeaderForm, C: Carrier>(form: &F, mode: &C, header: &Head
 }
 
 // Writes the symbols of a payload after the prior symbol; `bits` is room for its bits.
-fn carry_payload<C: Carrier>(mode: &C, seed: u8, psdu: &[u8], prior: u8, bits: &mut [u8], symbols: &mut [u8])
+fn carry_payload<C: Carrier>(
+    mode: &C,
+    seed: u8,
+    psdu: &[u8],
+    prior: u8,
+    bits: &mut [u8],
+    symbols: &mut [u8],
+)
     requires seed { ⌜ seed < 2 ⌝ }
     requires size { ⌜ Carried (8 * length (now psdu)) ⌝ }
     requires known { ⌜ prior < C·Carrier .mode (now mode) .map .q ⌝ }
@@ -79,11 +99,28 @@ pub fn write_payload<C: Carrier>(mode: &C, seed: u8, psdu: &[u8], prior: u8, sym
     ensures { λ _. ⌜ now (symbols .exit) ≡ sent (C·Carrier .mode (now (mode .entry))) prior (scrambled seed (now (psdu .entry))) ⌝ }
 {
     let mut bits = [0u8; MAX_BITS];
-    carry_payload(mode, seed, psdu, prior, &mut bits[0..8 * psdu.len()], symbols);
+    carry_payload(
+        mode,
+        seed,
+        psdu,
+        prior,
+        &mut bits[0..8 * psdu.len()],
+        symbols,
+    );
 }
 
 // Writes a frame; `head` is where its payload begins.
-pub fn write_frame<F: HeaderForm, C: Carrier>(form: &F, mode: &C, payload: &C, start: u8, preamble: &[u8], header: &Header, psdu: &[u8], head: usize, symbols: &mut [u8])
+pub fn write_frame<F: HeaderForm, C: Carrier>(
+    form: &F,
+    mode: &C,
+    payload: &C,
+    start: u8,
+    preamble: &[u8],
+    header: &Header,
+    psdu: &[u8],
+    head: usize,
+    symbols: &mut [u8],
+)
     requires { ⌜ Writable (F·HeaderForm .form) (C·Carrier .mode (now mode)) (C·Carrier .mode (now payload)) start (now preamble) (fieldsOf (now header)) (now psdu) head (length (now symbols)) ⌝ }
     ensures { λ _. ⌜ now (symbols .exit) ≡ written (F·HeaderForm .form) (C·Carrier .mode (now (mode .entry))) (C·Carrier .mode (now (payload .entry))) start (now (preamble .entry)) (fieldsOf (now (header .entry))) (now (psdu .entry)) ⌝ }
 {

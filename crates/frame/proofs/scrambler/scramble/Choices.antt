@@ -1,7 +1,8 @@
 use Prim.Native.Nat.{_*_}
 use mathlib.Core.Path.{_≡_}
 use lib.ListN.{take}
-use Rattle.frame.specs.Scrambler.{scrambled, Holds}
+use Rattle.frame.specs.Registers.{Holds}
+use Rattle.frame.specs.Scrambler.{scrambled}
 use Rattle.frame.proofs.scrambler.scramble.Given as given
 
 abbrev pub Inv-loop-i : given.InvT-loop-i

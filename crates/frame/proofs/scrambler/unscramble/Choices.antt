@@ -3,7 +3,8 @@ use mathlib.Core.Path.{_≡_}
 use lib.ListN.{take}
 use Rattle.std.specs.shelf.Lists.{All}
 use Rattle.frame.specs.Numbers.{Byte}
-use Rattle.frame.specs.Scrambler.{scrambled, Holds}
+use Rattle.frame.specs.Registers.{Holds}
+use Rattle.frame.specs.Scrambler.{scrambled}
 use Rattle.frame.proofs.scrambler.unscramble.Given as given
 
 abbrev pub Inv-loop-i : given.InvT-loop-i

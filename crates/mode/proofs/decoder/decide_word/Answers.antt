@@ -29,9 +29,9 @@ part-decide-end c = omega (arith, there c)
 
 pub decide-requires : need.decide-requires
 decide-requires c κs = record {
-    some = omega (arith, length-part (c .loop-i .at) (c .args .copies) (c .args .heard .now) (there (need.at·decide-requires c .In-loop-i)), c .pre .several);
-    bits = rw (bits-part (c .args .heard .now) (c .loop-i .at) (c .args .copies)) (all-take Bit (c .args .copies) (drop (c .loop-i .at) (bits-of (c .args .heard .now))) (all-drop Bit (c .loop-i .at) (bits-of (c .args .heard .now)) (c .pre .bits)));
-  }
+  some = omega (arith, length-part (c .loop-i .at) (c .args .copies) (c .args .heard .now) (there (need.at·decide-requires c .In-loop-i)), c .pre .several);
+  bits = rw (bits-part (c .args .heard .now) (c .loop-i .at) (c .args .copies)) (all-take Bit (c .args .copies) (drop (c .loop-i .at) (bits-of (c .args .heard .now))) (all-drop Bit (c .loop-i .at) (bits-of (c .args .heard .now)) (c .pre .bits)));
+}
 
 pub loop-i-again : need.loop-i-again
 loop-i-again c =

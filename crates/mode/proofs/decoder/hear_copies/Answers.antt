@@ -20,7 +20,9 @@ part-take-copies-end g c = simp length-append (omega (arith, sized g (need.at·p
 pub returns : need.returns
 returns g c =
     let R = c .read-part .last .bits in
-    let e = front-is R _ (length (c .args .heard .now)) (sized g (need.at·returns g c .In-Continue-read-part)) in
-    (R, c .in-Continue-read-part .ensures tt,
-    c .take-copies .ensures ∙ ap (λ xs. deinterleaved (c .args .copies) (length xs / c .args .copies) (labelled (c .width .result) 0 xs)) e
-    ∙ ap (λ w. deinterleaved (c .args .copies) (length R / c .args .copies) (labelled w 0 R)) (c .width .ensures))
+    let e = front-is R _ (length (c .args .heard .now)) (sized g (need.at·returns g c .In-Continue-read-part)) in (
+      R,
+      c .in-Continue-read-part .ensures tt,
+      c .take-copies .ensures ∙ ap (λ xs. deinterleaved (c .args .copies) (length xs / c .args .copies) (labelled (c .width .result) 0 xs)) e
+          ∙ ap (λ w. deinterleaved (c .args .copies) (length R / c .args .copies) (labelled w 0 R)) (c .width .ensures),
+    )

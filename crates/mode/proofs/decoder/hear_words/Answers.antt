@@ -77,16 +77,20 @@ part-lowest-end g c = omega (arith, there g (need.at·part-lowest-end g c .In-Ok
 pub lowest-requires : need.lowest-requires
 lowest-requires g c κs =
     let e : c .args .copies * (c .in-Ok .m + c .parity-bits-p .result) ≡ c .args .copies * (c .in-Ok .m + (g .C·BlockCode .code (c .args .code .now)) .p) = ap (λ q. c .args .copies * (c .in-Ok .m + q)) (c .parity-bits-p .ensures) in
-    omega (arith, length-part (c .loop-j .at) (c .args .copies * (c .in-Ok .m + c .parity-bits-p .result)) (c .args .heard .now) (there g (need.at·lowest-requires g c .In-Ok)),
-      copies-some (g .C·BlockCode .code (c .args .code .now)) (c .args .copies) (bits-of (c .args .heard .now)) (length (c .args .bits .now)) (c .loop-j .j) (c .loop-j .from) (c .loop-j .at) (c .in-Ok .m) (c .in-Ok .unsent) (c .pre .several) (here g (need.at·lowest-requires g c .In-Ok)))
+    omega (
+      arith,
+      length-part (c .loop-j .at) (c .args .copies * (c .in-Ok .m + c .parity-bits-p .result)) (c .args .heard .now) (there g (need.at·lowest-requires g c .In-Ok)),
+      copies-some (g .C·BlockCode .code (c .args .code .now)) (c .args .copies) (bits-of (c .args .heard .now)) (length (c .args .bits .now)) (c .loop-j .j) (c .loop-j .from) (c .loop-j .at) (c .in-Ok .m) (c .in-Ok .unsent) (c .pre .several) (here g (need.at·lowest-requires g c .In-Ok)),
+    )
 
 pub returns-in-rest-hear-message : need.returns-in-rest-hear-message
 returns-in-rest-hear-message g c =
     let h = here g (need.at·returns-in-rest-hear-message g c .In-Ok) in
-    let f = subst (λ e. FarWord (shortened (g .C·BlockCode .code (c .args .code .now)) (c .in-Ok .unsent)) (c .args .copies) e) (cut g (need.at·returns-in-rest-hear-message g c .In-Ok)) (c .in-rest-hear-message .ensures tt) in
-    (c .loop-j .j,
-    hearing-lost (g .C·BlockCode .code (c .args .code .now)) (g .C·BlockCode·met .lawful (c .args .code .now)) (c .args .copies) (bits-of (c .args .heard .now)) (c .loop-j .bits) (length (c .args .bits .now)) (c .loop-j .j) (c .loop-j .from) (c .loop-j .at) (c .loop-j .total) (c .in-Ok .m) (c .in-Ok .unsent) (c .loop-j .inv) h f (omega (arith, h .room, c .loop-j .kept .bits)),
-    lowest-at (g .C·BlockCode .code (c .args .code .now)) (c .args .copies) (bits-of (c .args .heard .now)) (c .loop-j .bits) (c .args .heard .now) (length (c .args .bits .now)) (c .loop-j .j) (c .loop-j .from) (c .loop-j .at) (c .loop-j .total) (c .in-Ok .m) (c .in-Ok .unsent) (c .parity-bits-p .result) (c .lowest .result) (c .loop-j .inv) h (c .parity-bits-p .ensures) (c .lowest .ensures))
+    let f = subst (λ e. FarWord (shortened (g .C·BlockCode .code (c .args .code .now)) (c .in-Ok .unsent)) (c .args .copies) e) (cut g (need.at·returns-in-rest-hear-message g c .In-Ok)) (c .in-rest-hear-message .ensures tt) in (
+      c .loop-j .j,
+      hearing-lost (g .C·BlockCode .code (c .args .code .now)) (g .C·BlockCode·met .lawful (c .args .code .now)) (c .args .copies) (bits-of (c .args .heard .now)) (c .loop-j .bits) (length (c .args .bits .now)) (c .loop-j .j) (c .loop-j .from) (c .loop-j .at) (c .loop-j .total) (c .in-Ok .m) (c .in-Ok .unsent) (c .loop-j .inv) h f (omega (arith, h .room, c .loop-j .kept .bits)),
+      lowest-at (g .C·BlockCode .code (c .args .code .now)) (c .args .copies) (bits-of (c .args .heard .now)) (c .loop-j .bits) (c .args .heard .now) (length (c .args .bits .now)) (c .loop-j .j) (c .loop-j .from) (c .loop-j .at) (c .loop-j .total) (c .in-Ok .m) (c .in-Ok .unsent) (c .parity-bits-p .result) (c .lowest .result) (c .loop-j .inv) h (c .parity-bits-p .ensures) (c .lowest .ensures),
+    )
 
 -- the word that is near
 near : (g : Over) (c : In-Some g) → NearWord (shortened (g .C·BlockCode .code (c .args .code .now)) (c .in-Ok .unsent)) (c .args .copies) (take (c .args .copies * (c .in-Ok .m + (g .C·BlockCode .code (c .args .code .now)) .p)) (drop (c .loop-j .at) (bits-of (c .args .heard .now)))) (c .hear-message .last .message) (c .in-Some .count)
@@ -103,7 +107,7 @@ loop-j-again g c =
     let r = h .room in
     rw (c .parity-bits-p .ensures) (hearing-more (g .C·BlockCode .code (c .args .code .now)) (g .C·BlockCode·met .lawful (c .args .code .now)) (c .args .copies) (bits-of (c .args .heard .now)) (c .loop-j .bits) (length (c .args .bits .now)) (c .loop-j .j) (c .loop-j .from) (c .loop-j .at) (c .loop-j .total) (c .in-Ok .m) (c .in-Ok .unsent) (c .loop-j .inv) h (c .hear-message .last .message) _ (c .in-Some .count) k
     (take-putMid (c .loop-j .from) (c .loop-j .from + c .in-Ok .m - c .loop-j .from) (c .loop-j .bits) (c .hear-message .last .message) (c .loop-j .from + c .in-Ok .m)
-      (omega (arith, k .valid .size, h .bits)) (omega (arith, c .loop-j .kept .bits))) (omega (arith, c .loop-j .kept .bits)))
+    (omega (arith, k .valid .size, h .bits)) (omega (arith, c .loop-j .kept .bits))) (omega (arith, c .loop-j .kept .bits)))
 
 pub returns : need.returns
 returns g c =

@@ -38,8 +38,9 @@ loop-b-again c =
     let a = counted (need.at·loop-b-again c .After-differing-against) in
     let i = c .loop-b .inv in
     elim (c .if-against-copies .came) [
-      then-against-copies w ↦ let t = w .if-against-copies .taken in let n = w .n-is in rw (w .at-is) (omega (arith, spoilt-yes (c .args .copies) (c .args .word .now) (bits-of (c .args .heard .now)) (c .loop-b .b-index) (c .loop-b .at) (c .loop-b-test .taken) (omega arith)), omega arith, omega arith)
-    | else-against-copies w ↦ let t = w .if-against-copies .left in let n = w .n-is in rw (w .at-is) (omega (arith, spoilt-no (c .args .copies) (c .args .word .now) (bits-of (c .args .heard .now)) (c .loop-b .b-index) (c .loop-b .at) (c .loop-b-test .taken) (omega arith)), omega arith, omega arith) ]
+      | then-against-copies w ↦ let t = w .if-against-copies .taken in let n = w .n-is in rw (w .at-is) (omega (arith, spoilt-yes (c .args .copies) (c .args .word .now) (bits-of (c .args .heard .now)) (c .loop-b .b-index) (c .loop-b .at) (c .loop-b-test .taken) (omega arith)), omega arith, omega arith)
+      | else-against-copies w ↦ let t = w .if-against-copies .left in let n = w .n-is in rw (w .at-is) (omega (arith, spoilt-no (c .args .copies) (c .args .word .now) (bits-of (c .args .heard .now)) (c .loop-b .b-index) (c .loop-b .at) (c .loop-b-test .taken) (omega arith)), omega arith, omega arith)
+    ]
 
 pub returns : need.returns
 returns c = omega (arith, c .loop-b .inv .0, spoilt-end (c .args .copies) (c .args .word .now) (drop (c .loop-b .at) (bits-of (c .args .heard .now))) (c .loop-b .b-index) (c .loop-b-test .left))

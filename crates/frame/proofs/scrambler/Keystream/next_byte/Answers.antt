@@ -2,7 +2,7 @@ use mathlib.Core.Path.{_≡_, sym, ap, subst}
 use Prim.Native.Nat.{ℕ, _+_}
 use native.Mathlib.Nat.{add-zero, add-assoc}
 use native.Mathlib.Omega.{arith}
-use Rattle.frame.specs.Scrambler.{mask, Holds}
+use Rattle.frame.specs.Registers.{mask, Holds}
 use Rattle.frame.proofs.Sequence.{mask-none, mask-step}
 use Rattle.frame.proofs.scrambler.Keystream.next_byte.Needs as need
 

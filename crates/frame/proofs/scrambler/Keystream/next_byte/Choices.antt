@@ -1,6 +1,6 @@
 use mathlib.Core.Path.{_≡_}
 use Prim.Native.Nat.{ℕ, _+_}
-use Rattle.frame.specs.Scrambler.{mask, Holds}
+use Rattle.frame.specs.Registers.{mask, Holds}
 use Rattle.frame.proofs.scrambler.Keystream.next_byte.Given as given
 
 abbrev pub Inv-loop-k : given.InvT-loop-k

@@ -24,8 +24,14 @@ returns-then-list-head g c =
 pub returns-in-Break-header : need.returns-in-Break-header
 returns-in-Break-header g c =
     let p = err-from-errBy (c .from-residual .result) (c .from-residual .ensures .1) in
-    rw (p .1, p .2) ((omega arith, header-faulty (g .P·RadioPlan .plan (c .args .self .now .plan)) (g .P·RadioPlan·met .lawful (c .args .self .now .plan)) (g .Mode·Carrier .mode (c .header-mode .result)) (g .Form·HeaderForm .form) (c .header-mode .ensures) (c .form-form .ensures)
-    (c .legal-rates-legal .result) (c .legal-rates-legal .ensures) (c .args .list .now) (c .bits-count .result) (c .count-head .result) (c .bits-count .ensures) (c .count-head .ensures .value) (c .if-list-head .left) (c .in-Break-header .field-0 .0) (c .in-Break-header .ensures tt)), refl)
+    rw (p .1, p .2) (
+      (
+        omega arith,
+        header-faulty (g .P·RadioPlan .plan (c .args .self .now .plan)) (g .P·RadioPlan·met .lawful (c .args .self .now .plan)) (g .Mode·Carrier .mode (c .header-mode .result)) (g .Form·HeaderForm .form) (c .header-mode .ensures) (c .form-form .ensures)
+            (c .legal-rates-legal .result) (c .legal-rates-legal .ensures) (c .args .list .now) (c .bits-count .result) (c .count-head .result) (c .bits-count .ensures) (c .count-head .ensures .value) (c .if-list-head .left) (c .in-Break-header .field-0 .0) (c .in-Break-header .ensures tt),
+      ),
+      refl,
+    )
 
 pub mul-bytes : need.mul-bytes
 mul-bytes g c = let r = ranges (g .P·RadioPlan .plan (c .args .self .now .plan)) (g .P·RadioPlan·met .lawful (c .args .self .now .plan)) (g .Mode·Carrier .mode (c .header-mode .result)) (g .Form·HeaderForm .form) (c .header-mode .ensures) (c .form-form .ensures)
@@ -36,10 +42,15 @@ count-requires g c κs = carries (g .P·RadioPlan .plan (c .args .self .now .pla
     (c .legal-rates-legal .result) (c .legal-rates-legal .ensures) (c .args .list .now) (c .bits-count .result) (c .count-head .result) (c .bits-count .ensures) (c .count-head .ensures .value) (c .if-list-head .left) (c .in-Continue-header .header) (c .in-Continue-header .spoilt) (c .in-Continue-header .ensures tt)
 
 pub returns-then-list-needed : need.returns-then-list-needed
-returns-then-list-needed g c =
-    ((omega arith, length-faulty (g .P·RadioPlan .plan (c .args .self .now .plan)) (g .P·RadioPlan·met .lawful (c .args .self .now .plan)) (g .Mode·Carrier .mode (c .header-mode .result)) (g .Form·HeaderForm .form) (c .header-mode .ensures) (c .form-form .ensures)
-    (c .legal-rates-legal .result) (c .legal-rates-legal .ensures) (c .args .list .now) (c .bits-count .result) (c .count-head .result) (c .bits-count .ensures) (c .count-head .ensures .value) (c .if-list-head .left) (c .in-Continue-header .header) (c .in-Continue-header .spoilt) (c .in-Continue-header .ensures tt)
-    (g .Mode·Carrier .mode (c .in-Some .payload)) (rated g (need.at·returns-then-list-needed g c .In-Some)) (c .count .result) (c .count .ensures .value) (c .if-list-needed .taken)), refl)
+returns-then-list-needed g c = (
+  (
+    omega arith,
+    length-faulty (g .P·RadioPlan .plan (c .args .self .now .plan)) (g .P·RadioPlan·met .lawful (c .args .self .now .plan)) (g .Mode·Carrier .mode (c .header-mode .result)) (g .Form·HeaderForm .form) (c .header-mode .ensures) (c .form-form .ensures)
+        (c .legal-rates-legal .result) (c .legal-rates-legal .ensures) (c .args .list .now) (c .bits-count .result) (c .count-head .result) (c .bits-count .ensures) (c .count-head .ensures .value) (c .if-list-head .left) (c .in-Continue-header .header) (c .in-Continue-header .spoilt) (c .in-Continue-header .ensures tt)
+        (g .Mode·Carrier .mode (c .in-Some .payload)) (rated g (need.at·returns-then-list-needed g c .In-Some)) (c .count .result) (c .count .ensures .value) (c .if-list-needed .taken),
+  ),
+  refl,
+)
 
 pub part-read-payload-end : need.part-read-payload-end
 part-read-payload-end g c = let r = ranges (g .P·RadioPlan .plan (c .args .self .now .plan)) (g .P·RadioPlan·met .lawful (c .args .self .now .plan)) (g .Mode·Carrier .mode (c .header-mode .result)) (g .Form·HeaderForm .form) (c .header-mode .ensures) (c .form-form .ensures)
@@ -49,10 +60,10 @@ pub read-payload-requires : need.read-payload-requires
 read-payload-requires g c κs =
     record {
       seed = seed-bit (g .P·RadioPlan .plan (c .args .self .now .plan)) (g .P·RadioPlan·met .lawful (c .args .self .now .plan)) (g .Mode·Carrier .mode (c .header-mode .result)) (g .Form·HeaderForm .form) (c .header-mode .ensures) (c .form-form .ensures)
-    (c .legal-rates-legal .result) (c .legal-rates-legal .ensures) (c .args .list .now) (c .bits-count .result) (c .count-head .result) (c .bits-count .ensures) (c .count-head .ensures .value) (c .if-list-head .left) (c .in-Continue-header .header) (c .in-Continue-header .spoilt) (c .in-Continue-header .ensures tt);
+          (c .legal-rates-legal .result) (c .legal-rates-legal .ensures) (c .args .list .now) (c .bits-count .result) (c .count-head .result) (c .bits-count .ensures) (c .count-head .ensures .value) (c .if-list-head .left) (c .in-Continue-header .header) (c .in-Continue-header .spoilt) (c .in-Continue-header .ensures tt);
       there = payload-there (g .P·RadioPlan .plan (c .args .self .now .plan)) (g .P·RadioPlan·met .lawful (c .args .self .now .plan)) (g .Mode·Carrier .mode (c .header-mode .result)) (g .Form·HeaderForm .form) (c .header-mode .ensures) (c .form-form .ensures)
-    (c .legal-rates-legal .result) (c .legal-rates-legal .ensures) (c .args .list .now) (c .bits-count .result) (c .count-head .result) (c .bits-count .ensures) (c .count-head .ensures .value) (c .if-list-head .left) (c .in-Continue-header .header) (c .in-Continue-header .spoilt) (c .in-Continue-header .ensures tt)
-    (g .Mode·Carrier .mode (c .in-Some .payload)) (rated g (need.at·read-payload-requires g c .In-Some)) (c .count .result) (c .count .ensures .value) (c .if-list-needed .left) (c .args .output .now) (omega arith);
+          (c .legal-rates-legal .result) (c .legal-rates-legal .ensures) (c .args .list .now) (c .bits-count .result) (c .count-head .result) (c .bits-count .ensures) (c .count-head .ensures .value) (c .if-list-head .left) (c .in-Continue-header .header) (c .in-Continue-header .spoilt) (c .in-Continue-header .ensures tt)
+          (g .Mode·Carrier .mode (c .in-Some .payload)) (rated g (need.at·read-payload-requires g c .In-Some)) (c .count .result) (c .count .ensures .value) (c .if-list-needed .left) (c .args .output .now) (omega arith);
     }
 
 pub returns-in-Break-more : need.returns-in-Break-more
@@ -68,10 +79,10 @@ add-result g c =
     omega (
       arith,
       spoilt-header (g .P·RadioPlan .plan (c .args .self .now .plan)) (g .P·RadioPlan·met .lawful (c .args .self .now .plan)) (g .Mode·Carrier .mode (c .header-mode .result)) (g .Form·HeaderForm .form) (c .header-mode .ensures) (c .form-form .ensures)
-    (c .legal-rates-legal .result) (c .legal-rates-legal .ensures) (c .args .list .now) (c .bits-count .result) (c .count-head .result) (c .bits-count .ensures) (c .count-head .ensures .value) (c .if-list-head .left) (c .in-Continue-header .header) (c .in-Continue-header .spoilt) (c .in-Continue-header .ensures tt),
+          (c .legal-rates-legal .result) (c .legal-rates-legal .ensures) (c .args .list .now) (c .bits-count .result) (c .count-head .result) (c .bits-count .ensures) (c .count-head .ensures .value) (c .if-list-head .left) (c .in-Continue-header .header) (c .in-Continue-header .spoilt) (c .in-Continue-header .ensures tt),
       spoilt-payload (g .P·RadioPlan .plan (c .args .self .now .plan)) (g .P·RadioPlan·met .lawful (c .args .self .now .plan)) (g .Mode·Carrier .mode (c .header-mode .result)) (g .Form·HeaderForm .form) (c .header-mode .ensures) (c .form-form .ensures)
-    (c .legal-rates-legal .result) (c .legal-rates-legal .ensures) (c .args .list .now) (c .bits-count .result) (c .count-head .result) (c .bits-count .ensures) (c .count-head .ensures .value) (c .if-list-head .left) (c .in-Continue-header .header) (c .in-Continue-header .spoilt) (c .in-Continue-header .ensures tt)
-    (g .Mode·Carrier .mode (c .in-Some .payload)) (rated g (need.at·add-result g c .In-Some)) (c .count .result) (c .count .ensures .value) (c .if-list-needed .left) (c .args .output .now) (omega arith) (c .read-payload .last .psdu) (c .in-Continue-more .more) (c .in-Continue-more .ensures tt),
+          (c .legal-rates-legal .result) (c .legal-rates-legal .ensures) (c .args .list .now) (c .bits-count .result) (c .count-head .result) (c .bits-count .ensures) (c .count-head .ensures .value) (c .if-list-head .left) (c .in-Continue-header .header) (c .in-Continue-header .spoilt) (c .in-Continue-header .ensures tt)
+          (g .Mode·Carrier .mode (c .in-Some .payload)) (rated g (need.at·add-result g c .In-Some)) (c .count .result) (c .count .ensures .value) (c .if-list-needed .left) (c .args .output .now) (omega arith) (c .read-payload .last .psdu) (c .in-Continue-more .more) (c .in-Continue-more .ensures tt),
     )
 
 pub returns : need.returns

@@ -39,8 +39,17 @@ unfolding frame
 returns-then-symbols-needed g c =
     record {
       plan = refl;
-      sends = ((omega arith, (omega arith, (g .Mode·Carrier .mode (c .in-Some .payload), c .in-Some .ensures tt)), (omega arith, omega arith), c .if-symbols-needed .taken,
-          needed g (need.at·returns-then-symbols-needed g c .After-count)), refl, refl);
+      sends = (
+        (
+          omega arith,
+          (omega arith, (g .Mode·Carrier .mode (c .in-Some .payload), c .in-Some .ensures tt)),
+          (omega arith, omega arith),
+          c .if-symbols-needed .taken,
+          needed g (need.at·returns-then-symbols-needed g c .After-count),
+        ),
+        refl,
+        refl,
+      );
     }
 
 pub write-frame-requires : need.write-frame-requires
@@ -59,15 +68,15 @@ returns g c =
     record {
       plan = refl;
       sends = (
-          omega arith,
-          (omega arith, (g .Mode·Carrier .mode (c .in-Some .payload), c .in-Some .ensures tt)),
-          (omega arith, omega arith),
-          c .if-symbols-needed .left,
-          needed g k,
-          put (g .P·RadioPlan .plan (c .args .self .now .plan)) (g .P·RadioPlan·met .lawful (c .args .self .now .plan)) (c .args .self .now .channel) (frame g k)
-              (g .Mode·Carrier .mode (c .header-mode .result)) (g .Mode·Carrier .mode (c .in-Some .payload)) (g .Form·HeaderForm .form) (c .header-mode .ensures) (c .form-form .ensures) (c .in-Some .ensures tt)
-              (legal-frame g k) (c .bits-count .result) (c .count-head .result) (c .count .result) (c .bits-count .ensures) (c .count-head .ensures .value) (c .count .ensures .value)
-              (c .start .result) (c .preamble-preamble .result) (c .write-frame .last .symbols) (c .args .symbols .now) (c .start .ensures) (c .preamble-preamble .ensures) (c .write-frame .ensures),
-          refl,
+        omega arith,
+        (omega arith, (g .Mode·Carrier .mode (c .in-Some .payload), c .in-Some .ensures tt)),
+        (omega arith, omega arith),
+        c .if-symbols-needed .left,
+        needed g k,
+        put (g .P·RadioPlan .plan (c .args .self .now .plan)) (g .P·RadioPlan·met .lawful (c .args .self .now .plan)) (c .args .self .now .channel) (frame g k)
+            (g .Mode·Carrier .mode (c .header-mode .result)) (g .Mode·Carrier .mode (c .in-Some .payload)) (g .Form·HeaderForm .form) (c .header-mode .ensures) (c .form-form .ensures) (c .in-Some .ensures tt)
+            (legal-frame g k) (c .bits-count .result) (c .count-head .result) (c .count .result) (c .bits-count .ensures) (c .count-head .ensures .value) (c .count .ensures .value)
+            (c .start .result) (c .preamble-preamble .result) (c .write-frame .last .symbols) (c .args .symbols .now) (c .start .ensures) (c .preamble-preamble .ensures) (c .write-frame .ensures),
+        refl,
       );
     }
