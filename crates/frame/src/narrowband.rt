@@ -77,7 +77,7 @@ fn verify_hcs(bits: &[u8]) -> Result<(), FormFault>
 // Bits 3 and 12 are zero.
 fn verify_reserved(bits: &[u8]) -> Result<(), FormFault>
     requires { Bits 19 bits.now }
-    ensures* { λ r. ⌜ MatchResult r (λ _. Clear narrowband bits.now) (λ e. elim e [ Check ↦ ⊥ | Reserved p ↦ LowestSet narrowband bits.now p | Rate r ↦ ⊥ ]) ⌝ }
+    ensures { MatchResult result (λ _. Clear narrowband bits.now) (λ e. elim e [ Check ↦ ⊥ | Reserved p ↦ LowestSet narrowband bits.now p | Rate r ↦ ⊥ ]) }
 {
     if bits[3] == 1 {
         return Err(FormFault::Reserved(3));

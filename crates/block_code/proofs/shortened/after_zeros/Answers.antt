@@ -7,4 +7,4 @@ pub returns : goal.returns
 returns c =
     let z = c.args.zeros in
     let ys = c.args.bits.now in
-    ap (put_mid z (z + length ys - z) (replicate 63 0)) c.copy-from-slice.ensures.after ∙ padded z (z + length ys - z) ys c.requires (omega arith)
+    ap (put_mid z (z + length ys - z) (replicate 63 0)) c.copy_from_slice.ensures.after ∙ padded z (z + length ys - z) ys c.requires (omega arith)

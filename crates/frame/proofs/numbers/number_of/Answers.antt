@@ -7,12 +7,12 @@ use Rattle.frame.proofs.numbers.number_of.Goals as goal
 pub loop-i-init : goal.loop-i-init
 loop-i-init c = sym (at_drop_all number_of c.args.bits.now (length c.args.bits.now) (omega arith))
 
-pub overflow-mul-number : goal.overflow-mul-number
-overflow-mul-number c =
+pub overflow_mul-number : goal.overflow_mul-number
+overflow_mul-number c =
     omega (arith, number-drop_below c.args.bits.now c.loop-i.i c.loop-i-test.true c.loop-i.auto.i c.requires.few c.requires.valid)
 
-pub overflow-add-number : goal.overflow-add-number
-overflow-add-number c =
+pub overflow_add-number : goal.overflow_add-number
+overflow_add-number c =
     omega (arith, number-drop_below c.args.bits.now c.loop-i.i c.loop-i-test.true c.loop-i.auto.i c.requires.few c.requires.valid)
 
 pub loop-i-preserved : goal.loop-i-preserved

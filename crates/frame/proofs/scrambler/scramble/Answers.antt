@@ -13,9 +13,9 @@ loop-i-preserved c =
     let xs = c.args.psdu.now in
     let bs = c.loop-i.bits in
     let long : length bs ≡ 8 * length xs = omega arith in
-    let next = c.next-byte.ensures seed (8 * i) c.loop-i.invariant.0 in (
+    let next = c.next_byte.ensures seed (8 * i) c.loop-i.invariant.0 in (
       holds_next seed i xs bs c.loop-i-test.true long _ next.1,
-      scramble_more seed i xs bs c.loop-i-test.true long c.next-byte.result c.put-low-bits.new.places c.loop-i.invariant.1 next.0 c.put-low-bits.ensures,
+      scramble_more seed i xs bs c.loop-i-test.true long c.next_byte.result c.put_low_bits.new.places c.loop-i.invariant.1 next.0 c.put_low_bits.ensures,
     )
 
 pub returns : goal.returns
@@ -25,7 +25,7 @@ returns c =
     let e : c.loop-i.i ≡ length xs = omega arith in
     let all : length bs ≡ 8 * c.loop-i.i = omega arith in (
       omega arith,
-      All-from_get_or Byte xs 0 (λ k l. (c.type-inv.psdu k).fits),
+      All-from_get_or Byte xs 0 (λ k l. (c.type_inv.psdu k).fits),
       omega arith,
       sym (take_all (8 * c.loop-i.i) bs (omega arith)) ∙ c.loop-i.invariant.1
           ∙ ap (scrambled c.args.seed) (take_all c.loop-i.i xs (omega arith)),

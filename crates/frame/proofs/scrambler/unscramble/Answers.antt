@@ -9,10 +9,10 @@ use Rattle.frame.specs.Scrambler.{scrambled}
 use Rattle.frame.proofs.Scrambling.{holds_next, part_bits, unscramble_more}
 use Rattle.frame.proofs.scrambler.unscramble.Goals as goal
 
-pub number-of-requires : goal.number-of-requires
-number-of-requires c =
+pub number_of-requires : goal.number_of-requires
+number_of-requires c =
     let long : length c.args.bits.now ≡ 8 * length c.args.psdu.now = omega arith in
-    let b = part_bits 0 c.loop-i.i c.args.psdu.now c.args.bits.now c.loop-i-test.true long (c.are-bits.ensures.0 c.if-not-are-bits.false) in
+    let b = part_bits 0 c.loop-i.i c.args.psdu.now c.args.bits.now c.loop-i-test.true long (c.are_bits.ensures.0 c.if-not-are_bits.false) in
     record { few = omega (arith, b.size); valid = b.bits }
 
 pub loop-i-preserved : goal.loop-i-preserved
@@ -21,14 +21,14 @@ loop-i-preserved c =
     let i = c.loop-i.i in
     let xs = c.loop-i.psdu in
     let bs = c.args.bits.now in
-    let y = bit_xor c.number_of.result c.next-byte.result in
+    let y = bit_xor c.number_of.result c.next_byte.result in
     let inside : i < length xs = omega arith in
     let long : length bs ≡ 8 * length xs = omega arith in
-    let next = c.next-byte.ensures seed (8 * i) c.loop-i.invariant.0 in (
+    let next = c.next_byte.ensures seed (8 * i) c.loop-i.invariant.0 in (
       holds_next seed i xs bs inside long _ next.1,
-      unscramble_more seed i xs bs inside long c.number_of.result c.next-byte.result (c.are-bits.ensures.0 c.if-not-are-bits.false) c.loop-i.invariant.1 next.0 c.number_of.ensures,
+      unscramble_more seed i xs bs inside long c.number_of.result c.next_byte.result (c.are_bits.ensures.0 c.if-not-are_bits.false) c.loop-i.invariant.1 next.0 c.number_of.ensures,
       rw (take_more_set xs i y inside)
-          (All-push Byte (take i xs) y c.loop-i.invariant.2 (xor_lt 8 c.number_of.result c.next-byte.result c.number_of.type-inv c.next-byte.type-inv)),
+          (All-push Byte (take i xs) y c.loop-i.invariant.2 (xor_lt 8 c.number_of.result c.next_byte.result c.number_of.type_inv c.next_byte.type_inv)),
     )
 
 pub returns : goal.returns
@@ -37,7 +37,7 @@ returns c =
     let bs = c.args.bits.now in
     let e : take c.loop-i.i xs ≡ xs = take_all c.loop-i.i xs (omega arith) in (
       omega arith,
-      record { size = omega arith; bits = (c.are-bits.ensures.0 c.if-not-are-bits.false) },
+      record { size = omega arith; bits = (c.are_bits.ensures.0 c.if-not-are_bits.false) },
       omega arith,
       rw e at c.loop-i.invariant.2,
       ap (scrambled c.args.seed) (sym e) ∙ c.loop-i.invariant.1 ∙ take_all (8 * c.loop-i.i) bs (omega arith),

@@ -6,13 +6,13 @@ use Rattle.bits.specs.Strings.{Bit}
 use Rattle.mapping.specs.Numbers.{front_small, number_step}
 use Rattle.mapping.proofs.phase.number_of.Goals as goal
 
-pub overflow-mul-n : goal.overflow-mul-n
-overflow-mul-n c =
+pub overflow_mul-n : goal.overflow_mul-n
+overflow_mul-n c =
     let e : c.loop-bit.n ≡ number_from_digits 2 (take c.loop-bit.bit-index c.args.bits.now) = c.loop-bit.invariant in
     omega (arith, front_small c.args.bits.now c.loop-bit.bit-index c.requires.binary c.requires.short)
 
-pub overflow-add-n : goal.overflow-add-n
-overflow-add-n c =
+pub overflow_add-n : goal.overflow_add-n
+overflow_add-n c =
     let e : c.loop-bit.n ≡ number_from_digits 2 (take c.loop-bit.bit-index c.args.bits.now) = c.loop-bit.invariant in
     let b : get_or c.args.bits.now c.loop-bit.bit-index 0 < 2 =
     All-get_or Bit c.args.bits.now c.loop-bit.bit-index 0 c.loop-bit-test.true c.requires.binary in

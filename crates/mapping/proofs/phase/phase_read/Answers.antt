@@ -5,12 +5,12 @@ use Rattle.mapping.specs.Tables.{Leads}
 use Rattle.mapping.specs.TablesLemmas.{table, none_leads}
 use Rattle.mapping.proofs.phase.phase_read.Goals as goal
 
-pub find-step-requires : goal.find-step-requires
-find-step-requires c =
+pub find_step-requires : goal.find_step-requires
+find_step-requires c =
     record { phase = omega arith; steps = (table c.args.w c.args.steps.now c.requires).distinct }
 
-pub write-bits-requires : goal.write-bits-requires
-write-bits-requires c =
+pub write_bits-requires : goal.write_bits-requires
+write_bits-requires c =
     let t = table c.args.w c.args.steps.now c.requires in
     let l : length c.args.bits.now ≡ c.args.w = omega arith in
     let e : 2 ^ length c.args.bits.now ≡ length c.args.steps.now = ap (λ n. 2 ^ n) l ∙ sym t.size in
@@ -28,8 +28,8 @@ returns-in-Some c =
     let l : length c.args.bits.now ≡ c.args.w = omega arith in
     let found : Leads c.args.steps.now c.args.prior c.args.next c.in-Some.i =
     c.in-Some.ensures.1 in
-    let written : number_from_digits 2 c.write-bits.new.bits ≡ c.in-Some.i = c.write-bits.ensures.value in (
+    let written : number_from_digits 2 c.write_bits.new.bits ≡ c.in-Some.i = c.write_bits.ensures.value in (
       record { from = omega arith; to = omega arith; size = l },
-      subst (λ w. Bits w c.write-bits.new.bits) l c.write-bits.ensures.binary,
+      subst (λ w. Bits w c.write_bits.new.bits) l c.write_bits.ensures.binary,
       rw written found,
     )

@@ -8,12 +8,12 @@ use Rattle.mode.proofs.coder.put_copies.Goals.{After-spread}
 copies-sized : (c : After-spread) → length c.spread.new.output ≡ length c.args.air.now
 copies-sized c = ap length c.spread.ensures ∙ length-spread c.args.copies c.args.coded.now ∙ sym c.requires.room
 
-pub slice-bounds-interleave-end : goal.slice-bounds-interleave-end
-slice-bounds-interleave-end c = simp length-append (omega (arith, copies-sized (goal.at.slice-bounds-interleave-end c).After-spread))
+pub slice_bounds-interleave-end : goal.slice_bounds-interleave-end
+slice_bounds-interleave-end c = simp length-append (omega (arith, copies-sized (goal.at.slice_bounds-interleave-end c).After-spread))
 
 pub unreachable-requires : goal.unreachable-requires
 unreachable-requires c =
-    c.in-default.ensures.0
+    c.in_default.ensures.0
     (movable_front c.spread.new.output _ c.args.air.now (length c.args.air.now) c.args.copies (length c.args.coded.now)
     (copies-sized (goal.at.unreachable-requires c).After-spread) c.requires.room c.requires.several c.requires.enough refl)
 

@@ -12,6 +12,6 @@ parity-is g c =
 
 pub returns : goal.returns
 returns g c =
-    let e = c.copy-from-slice.ensures.after in
-    put_two (length c.args.message.now) c.copy-from-slice.new.self (drop (length c.args.message.now - 0) c.args.output.now) c.encode.new.parity (ap length e)
+    let e = c.copy_from_slice.ensures.after in
+    put_two (length c.args.message.now) c.copy_from_slice.new.self (drop (length c.args.message.now - 0) c.args.output.now) c.encode.new.parity (ap length e)
     ∙ ap (λ ms. ms ++ c.encode.new.parity) e ∙ ap (λ ps. c.args.message.now ++ ps) (parity-is g c)

@@ -10,44 +10,44 @@ here : (g : Over) (c : In-Ok g) → Turn (g.C.BlockCode.code c.args.code.now) c.
 here g c =
     let L = g.met.C.BlockCode.lawful c.args.code.now in
     let s = c.in-Ok.ensures.answer in
-    turn (g.C.BlockCode.code c.args.code.now) c.args.bits.now c.loop-i.output c.loop-i.i c.loop-i.from c.loop-i.at c.word-count-i-end.result c.message-bits-k.result c.in-Ok.m c.in-Ok.unsent
-    L.some c.loop-i.invariant c.message-bits-k.ensures c.word-count-i-end.ensures c.loop-i-test.true s.1 s.2
+    turn (g.C.BlockCode.code c.args.code.now) c.args.bits.now c.loop-i.output c.loop-i.i c.loop-i.from c.loop-i.at c.word_count-i-end.result c.message_bits-k.result c.in-Ok.m c.in-Ok.unsent
+    L.some c.loop-i.invariant c.message_bits-k.ensures c.word_count-i-end.ensures c.loop-i-test.true s.1 s.2
 
 pub loop-i-init : goal.loop-i-init
 loop-i-init g c = coding_none (g.C.BlockCode.code c.args.code.now) c.args.bits.now c.args.output.now (g.met.C.BlockCode.lawful c.args.code.now).some c.requires.room
 
-pub overflow-add-to : goal.overflow-add-to
-overflow-add-to g c = omega (arith, (here g c).reads)
+pub overflow_add-to : goal.overflow_add-to
+overflow_add-to g c = omega (arith, (here g c).reads)
 
-pub overflow-add-end-in-loop-i : goal.overflow-add-end-in-loop-i
-overflow-add-end-in-loop-i g c = omega (arith, (here g c).ranges, c.parity-bits-p.ensures)
+pub overflow_add-end-in-loop-i : goal.overflow_add-end-in-loop-i
+overflow_add-end-in-loop-i g c = omega (arith, (here g c).fits, c.parity_bits-p.ensures)
 
-pub slice-bounds-put-word-end : goal.slice-bounds-put-word-end
-slice-bounds-put-word-end g c = omega (arith, (here g c).reads)
+pub slice_bounds-put_word-end : goal.slice_bounds-put_word-end
+slice_bounds-put_word-end g c = omega (arith, (here g c).reads)
 
-pub slice-bounds-put-word-end-in-loop-i : goal.slice-bounds-put-word-end-in-loop-i
-slice-bounds-put-word-end-in-loop-i g c = omega (arith, (here g (goal.at.slice-bounds-put-word-end-in-loop-i g c).In-Ok).fits, c.parity-bits-p.ensures)
+pub slice_bounds-put_word-end-in-loop-i : goal.slice_bounds-put_word-end-in-loop-i
+slice_bounds-put_word-end-in-loop-i g c = omega (arith, (here g (goal.at.slice_bounds-put_word-end-in-loop-i g c).In-Ok).fits, c.parity_bits-p.ensures)
 
-pub put-word-requires : goal.put-word-requires
-put-word-requires g c =
-    let t = here g (goal.at.put-word-requires g c).In-Ok in
-    let p = c.parity-bits-p.ensures in
-    let w : c.loop-i.at + (c.in-Ok.m + c.parity-bits-p.result) ≤ length c.loop-i.output = omega (arith, t.fits) in
+pub put_word-requires : goal.put_word-requires
+put_word-requires g c =
+    let t = here g (goal.at.put_word-requires g c).In-Ok in
+    let p = c.parity_bits-p.ensures in
+    let w : c.loop-i.at + (c.in-Ok.m + c.parity_bits-p.result) ≤ length c.loop-i.output = omega (arith, t.fits) in
     record {
       short = t.below;
       bits = part_bits c.loop-i.from c.in-Ok.m _ c.args.bits.now t.reads t.bits c.requires.bits.bits;
-      room = omega (arith, length_part c.loop-i.from c.in-Ok.m c.args.bits.now t.reads, length_part c.loop-i.at (c.in-Ok.m + c.parity-bits-p.result) c.loop-i.output w);
+      room = omega (arith, length_part c.loop-i.from c.in-Ok.m c.args.bits.now t.reads, length_part c.loop-i.at (c.in-Ok.m + c.parity_bits-p.result) c.loop-i.output w);
     }
 
 pub loop-i-preserved : goal.loop-i-preserved
 loop-i-preserved g c =
     let t = here g (goal.at.loop-i-preserved g c).In-Ok in
-    let p = c.parity-bits-p.ensures in
-    let w : c.loop-i.at + (c.in-Ok.m + c.parity-bits-p.result) ≤ length c.loop-i.output = omega (arith, t.fits) in
-    coding_more (g.C.BlockCode.code c.args.code.now) c.args.bits.now c.loop-i.output c.put-word.new.output c.loop-i.i c.loop-i.from c.loop-i.at c.in-Ok.m c.in-Ok.unsent (c.in-Ok.m + c.parity-bits-p.result)
-    c.loop-i.invariant t (omega arith) (c.put-word.auto.output ∙ length_part c.loop-i.at (c.in-Ok.m + c.parity-bits-p.result) c.loop-i.output w) c.put-word.ensures
+    let p = c.parity_bits-p.ensures in
+    let w : c.loop-i.at + (c.in-Ok.m + c.parity_bits-p.result) ≤ length c.loop-i.output = omega (arith, t.fits) in
+    coding_more (g.C.BlockCode.code c.args.code.now) c.args.bits.now c.loop-i.output c.put_word.new.output c.loop-i.i c.loop-i.from c.loop-i.at c.in-Ok.m c.in-Ok.unsent (c.in-Ok.m + c.parity_bits-p.result)
+    c.loop-i.invariant t (omega arith) (c.put_word.auto.output ∙ length_part c.loop-i.at (c.in-Ok.m + c.parity_bits-p.result) c.loop-i.output w) c.put_word.ensures
 
 pub returns : goal.returns
 returns g c =
-    coding_all (g.C.BlockCode.code c.args.code.now) c.args.bits.now c.loop-i.output c.loop-i.i c.loop-i.from c.loop-i.at c.word-count-i-end.result c.message-bits-k.result
-    c.loop-i.invariant c.message-bits-k.ensures c.word-count-i-end.ensures c.loop-i-test.false
+    coding_all (g.C.BlockCode.code c.args.code.now) c.args.bits.now c.loop-i.output c.loop-i.i c.loop-i.from c.loop-i.at c.word_count-i-end.result c.message_bits-k.result
+    c.loop-i.invariant c.message_bits-k.ensures c.word_count-i-end.ensures c.loop-i-test.false

@@ -6,11 +6,11 @@ use Rattle.mode.proofs.coder.spread.Goals as goal
 pub loop-b-init : goal.loop-b-init
 loop-b-init c = (omega arith, refl)
 
-pub overflow-add-end : goal.overflow-add-end
-overflow-add-end c = omega (arith, room_there c.args.copies (length c.args.bits.now) c.loop-b.b-index (length c.loop-b.output) (omega (arith, c.loop-b.auto.output, c.requires)) c.loop-b-test.true)
+pub overflow_add-end : goal.overflow_add-end
+overflow_add-end c = omega (arith, room_there c.args.copies (length c.args.bits.now) c.loop-b.b-index (length c.loop-b.output) (omega (arith, c.loop-b.auto.output, c.requires)) c.loop-b-test.true)
 
-pub slice-bounds-fill-end : goal.slice-bounds-fill-end
-slice-bounds-fill-end c = omega (arith, room_there c.args.copies (length c.args.bits.now) c.loop-b.b-index (length c.loop-b.output) (omega (arith, c.loop-b.auto.output, c.requires)) c.loop-b-test.true)
+pub slice_bounds-fill-end : goal.slice_bounds-fill-end
+slice_bounds-fill-end c = omega (arith, room_there c.args.copies (length c.args.bits.now) c.loop-b.b-index (length c.loop-b.output) (omega (arith, c.loop-b.auto.output, c.requires)) c.loop-b-test.true)
 
 pub loop-b-preserved : goal.loop-b-preserved
 loop-b-preserved c =

@@ -15,14 +15,14 @@ there c = omega (arith, copies_at c.args.copies (length c.args.word.now) c.loop-
 pub loop-i-init : goal.loop-i-init
 loop-i-init c = decided_none c.args.copies (bits_of c.args.heard.now) c.args.word.now
 
-pub overflow-add-end : goal.overflow-add-end
-overflow-add-end c = omega (arith, there c)
+pub overflow_add-end : goal.overflow_add-end
+overflow_add-end c = omega (arith, there c)
 
-pub offset-bounds-heard-at : goal.offset-bounds-heard-at
-offset-bounds-heard-at c = omega (arith, there c)
+pub offset_bounds-heard-at : goal.offset_bounds-heard-at
+offset_bounds-heard-at c = omega (arith, there c)
 
-pub slice-bounds-decide-end : goal.slice-bounds-decide-end
-slice-bounds-decide-end c = omega (arith, there c)
+pub slice_bounds-decide-end : goal.slice_bounds-decide-end
+slice_bounds-decide-end c = omega (arith, there c)
 
 pub decide-requires : goal.decide-requires
 decide-requires c = record {

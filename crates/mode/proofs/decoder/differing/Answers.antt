@@ -6,8 +6,8 @@ use Rattle.mode.proofs.decoder.differing.Goals.{then-c-bit, else-c-bit}
 pub loop-c-init : goal.loop-c-init
 loop-c-init c = (omega arith, omega arith)
 
-pub overflow-add-n : goal.overflow-add-n
-overflow-add-n c = omega arith
+pub overflow_add-n : goal.overflow_add-n
+overflow_add-n c = omega arith
 
 pub loop-c-preserved : goal.loop-c-preserved
 loop-c-preserved c = elim c.if-c-bit.branch [

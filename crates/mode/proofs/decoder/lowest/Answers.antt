@@ -7,8 +7,8 @@ loop-h-init c = low_none c.args.heard.now c.requires
 
 pub loop-h-preserved : goal.loop-h-preserved
 loop-h-preserved c = elim c.if-h-low.branch [
-  | then-h-low w ↦ rw w.low_is (low_other c.args.heard.now c.loop-h.h-index c.loop-h.low c.loop-h.invariant c.loop-h-test.true w.if-h-low.true)
-  | else-h-low w ↦ rw w.low_is (low_same c.args.heard.now c.loop-h.h-index c.loop-h.low c.loop-h.invariant w.if-h-low.false)
+  | then-h-low w ↦ rw w.low-is (low_other c.args.heard.now c.loop-h.h-index c.loop-h.low c.loop-h.invariant c.loop-h-test.true w.if-h-low.true)
+  | else-h-low w ↦ rw w.low-is (low_same c.args.heard.now c.loop-h.h-index c.loop-h.low c.loop-h.invariant w.if-h-low.false)
 ]
 
 pub returns : goal.returns

@@ -23,15 +23,15 @@ returns-then-from-q-2 g c =
     symbol_fault g.M.Mapping.map c.args.list.now c.args.at c.args.count g.met.M.Mapping.lawful c.loop-k.bits c.loop-k.k c.loop-k.prior c.loop-k.from c.loop-k.invariant (c.args.at + 1 + c.loop-k.k) refl c.loop-k-test.true
     (omega (arith, c.if-from-q-2.true, c.from-in-loop-k.ensures, c.order-q.ensures))
 
-pub slice-bounds-read-end : goal.slice-bounds-read-end
-slice-bounds-read-end g c = omega (arith, there g (goal.at.slice-bounds-read-end g c).In-loop-k)
+pub slice_bounds-read-end : goal.slice_bounds-read-end
+slice_bounds-read-end g c = omega (arith, there g (goal.at.slice_bounds-read-end g c).In-loop-k)
 
-pub returns-in-default : goal.returns-in-default
-returns-in-default g c =
+pub returns-in_default : goal.returns-in_default
+returns-in_default g c =
     let q : get_or c.args.list.now (c.args.at + 1 + c.loop-k.k) 0 < g.M.Mapping.map.q = omega (arith, c.if-from-q-2.false, c.from-in-loop-k.ensures, c.order-q.ensures) in
     step_fault g.M.Mapping.map c.args.list.now c.args.at c.args.count g.met.M.Mapping.lawful c.loop-k.bits c.loop-k.k c.loop-k.prior c.loop-k.from c.loop-k.invariant (c.args.at + 1 + c.loop-k.k) refl c.loop-k-test.true q
-    (unread g.M.Mapping.map c.loop-k.prior (get_or c.args.list.now (c.args.at + 1 + c.loop-k.k) 0) (take (c.loop-k.from + c.width-w.result - c.loop-k.from) (drop c.loop-k.from c.loop-k.bits)) c.read.new.bits c.in-default.field-0
-    (record { from = sofar_prior g.M.Mapping.map c.args.list.now c.args.at c.args.count g.met.M.Mapping.lawful c.loop-k.bits c.loop-k.k c.loop-k.prior c.loop-k.from c.loop-k.invariant; to = q; size = length_part c.loop-k.from c.width-w.result c.loop-k.bits (there g (goal.at.returns-in-default g c).In-loop-k) ∙ c.width-w.ensures }) c.in-default.ensures)
+    (unread g.M.Mapping.map c.loop-k.prior (get_or c.args.list.now (c.args.at + 1 + c.loop-k.k) 0) (take (c.loop-k.from + c.width-w.result - c.loop-k.from) (drop c.loop-k.from c.loop-k.bits)) c.read.new.bits c.in_default.field-0
+    (record { from = sofar_prior g.M.Mapping.map c.args.list.now c.args.at c.args.count g.met.M.Mapping.lawful c.loop-k.bits c.loop-k.k c.loop-k.prior c.loop-k.from c.loop-k.invariant; to = q; size = length_part c.loop-k.from c.width-w.result c.loop-k.bits (there g (goal.at.returns-in_default g c).In-loop-k) ∙ c.width-w.ensures }) c.in_default.ensures)
 
 pub loop-k-preserved : goal.loop-k-preserved
 loop-k-preserved g c =

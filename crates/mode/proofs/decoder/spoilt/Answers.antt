@@ -15,20 +15,20 @@ counted c = against_is (get_or c.args.word.now c.loop-b.b-index 0) c.loop-b.at c
 pub loop-b-init : goal.loop-b-init
 loop-b-init c = (omega arith, omega arith, omega arith)
 
-pub overflow-add-end : goal.overflow-add-end
-overflow-add-end c = omega (arith, there (goal.at.overflow-add-end c).In-loop-b)
+pub overflow_add-end : goal.overflow_add-end
+overflow_add-end c = omega (arith, there (goal.at.overflow_add-end c).In-loop-b)
 
-pub offset-bounds-heard-at : goal.offset-bounds-heard-at
-offset-bounds-heard-at c = omega (arith, there (goal.at.offset-bounds-heard-at c).In-loop-b)
+pub offset_bounds-heard-at : goal.offset_bounds-heard-at
+offset_bounds-heard-at c = omega (arith, there (goal.at.offset_bounds-heard-at c).In-loop-b)
 
-pub slice-bounds-differing-end : goal.slice-bounds-differing-end
-slice-bounds-differing-end c = omega (arith, there (goal.at.slice-bounds-differing-end c).In-loop-b)
+pub slice_bounds-differing-end : goal.slice_bounds-differing-end
+slice_bounds-differing-end c = omega (arith, there (goal.at.slice_bounds-differing-end c).In-loop-b)
 
-pub overflow-sub-copies : goal.overflow-sub-copies
-overflow-sub-copies c = against_few (get_or c.args.word.now c.loop-b.b-index 0) c.loop-b.at c.args.copies c.differing-against.result c.args.heard.now (counted c)
+pub overflow_sub-copies : goal.overflow_sub-copies
+overflow_sub-copies c = against_few (get_or c.args.word.now c.loop-b.b-index 0) c.loop-b.at c.args.copies c.differing-against.result c.args.heard.now (counted c)
 
-pub overflow-add-n : goal.overflow-add-n
-overflow-add-n c = omega (arith, c.loop-b.invariant.1)
+pub overflow_add-n : goal.overflow_add-n
+overflow_add-n c = omega (arith, c.loop-b.invariant.1)
 
 pub loop-b-preserved : goal.loop-b-preserved
 loop-b-preserved c =

@@ -9,13 +9,13 @@ use Rattle.mode.proofs.decoder.take_block.Goals.{After-label}
 sized : (c : After-label) → length c.label.new.output ≡ length c.args.bits.now
 sized c = ap length c.label.ensures ∙ length-labelled c.args.w c.args.from c.args.bits.now
 
-pub slice-bounds-deinterleave-end : goal.slice-bounds-deinterleave-end
-slice-bounds-deinterleave-end c = simp length-append (omega (arith, sized (goal.at.slice-bounds-deinterleave-end c).After-label))
+pub slice_bounds-deinterleave-end : goal.slice_bounds-deinterleave-end
+slice_bounds-deinterleave-end c = simp length-append (omega (arith, sized (goal.at.slice_bounds-deinterleave-end c).After-label))
 
 pub unreachable-requires : goal.unreachable-requires
 unreachable-requires c =
     let e = front_length c.label.new.output _ (length c.args.bits.now) (sized (goal.at.unreachable-requires c).After-label) in
-    c.in-default.ensures.moves.0 (rw e c.requires.copied, c.requires.room ∙ sym e)
+    c.in_default.ensures.moves.0 (rw e c.requires.copied, c.requires.room ∙ sym e)
 
 pub returns : goal.returns
 returns c =

@@ -14,8 +14,8 @@ inside g c =
 pub returns-then-output-input : goal.returns-then-output-input
 returns-then-output-input g c = record { undoing = undoing; moves = search rules }
 
-pub offset-bounds-output-source : goal.offset-bounds-output-source
-offset-bounds-output-source g c = let h = inside g c in search rules
+pub offset_bounds-output-source : goal.offset_bounds-output-source
+offset_bounds-output-source g c = let h = inside g c in search rules
 
 pub bounds-output-source : goal.bounds-output-source
 bounds-output-source g c = inside g c

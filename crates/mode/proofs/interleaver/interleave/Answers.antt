@@ -11,8 +11,8 @@ inside g c =
     let k = c.copied.ensures.0 c.if-not-copied.false in
     omega (arith, (copied_places c.args.copies (length c.args.input.now) k).below c.loop-i.i c.loop-i-test.true, c.source.ensures)
 
-pub offset-bounds-input-source : goal.offset-bounds-input-source
-offset-bounds-input-source g c = omega (arith, inside g c)
+pub offset_bounds-input-source : goal.offset_bounds-input-source
+offset_bounds-input-source g c = omega (arith, inside g c)
 
 pub bounds-input-source : goal.bounds-input-source
 bounds-input-source g c = inside g c

@@ -10,23 +10,23 @@ returns-then-k-lt1 c = record {
 }
 
 pub returns-then-word-words : goal.returns-then-word-words
-returns-then-word-words c = record { answer = λ s. omega (arith, s.there, c.word-count-words.ensures); whole = all_shared }
+returns-then-word-words c = record { answer = λ s. omega (arith, s.there, c.word_count-words.ensures); whole = all_shared }
 
-pub overflow-mul-words : goal.overflow-mul-words
-overflow-mul-words c = rw c.word-count-words.ensures (omega (arith, words_room c.args.k c.args.n (omega arith)))
+pub overflow_mul-words : goal.overflow_mul-words
+overflow_mul-words c = rw c.word_count-words.ensures (omega (arith, words_room c.args.k c.args.n (omega arith)))
 
-pub overflow-sub-words : goal.overflow-sub-words
-overflow-sub-words c = rw c.word-count-words.ensures (words_room c.args.k c.args.n (omega arith)).0
+pub overflow_sub-words : goal.overflow_sub-words
+overflow_sub-words c = rw c.word_count-words.ensures (words_room c.args.k c.args.n (omega arith)).0
 
 -- what the code takes for the unsent bits of the word
 told : (c : goal.After-spare-unsent) → c.spare-unsent.result ≡ unsent c.args.k c.args.n c.args.word
-told c = unsent_is c.args.k c.args.n c.args.word c.word-count-words.result c.spare-unsent.result c.word-count-words.ensures c.spare-unsent.ensures
+told c = unsent_is c.args.k c.args.n c.args.word c.word_count-words.result c.spare-unsent.result c.word_count-words.ensures c.spare-unsent.ensures
 
 there : (c : goal.After-spare-unsent) → c.args.word < words c.args.k c.args.n
-there c = rw c.word-count-words.ensures at c.if-word-words.false
+there c = rw c.word_count-words.ensures at c.if-word-words.false
 
-pub overflow-sub-result : goal.overflow-sub-result
-overflow-sub-result c = omega (arith, told c, unsent_below c.args.k c.args.n c.args.word (omega arith) (there c))
+pub overflow_sub-result : goal.overflow_sub-result
+overflow_sub-result c = omega (arith, told c, unsent_below c.args.k c.args.n c.args.word (omega arith) (there c))
 
 pub returns : goal.returns
 returns c = record {

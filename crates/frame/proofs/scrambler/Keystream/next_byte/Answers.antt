@@ -10,8 +10,8 @@ pub loop-k-preserved : goal.loop-k-preserved
 loop-k-preserved c = λ seed n h.
     let k = c.loop-k.k in
     let i = c.loop-k.invariant seed n h in
-    let e = c.next-bit.ensures.next seed (n + k) i.1 in
-    (mask_step seed n k c.loop-k.byte c.next-bit.result c.loop-k-test.true i.0 e.0, rw (← (add_assoc n k 1)) e.1)
+    let e = c.next_bit.ensures.next seed (n + k) i.1 in
+    (mask_step seed n k c.loop-k.byte c.next_bit.result c.loop-k-test.true i.0 e.0, rw (← (add_assoc n k 1)) e.1)
 
 pub returns : goal.returns
 returns c = λ seed n h.

@@ -9,33 +9,33 @@ use Rattle.mode.proofs.chain.ChainCarrier.hear.Given.{Over}
 use Rattle.mode.proofs.chain.ChainCarrier.hear.Goals as goal
 use Rattle.mode.proofs.chain.ChainCarrier.hear.Goals.{After-width}
 
-few : (g : Over) (c : After-width g) → c.in-ok-count.count * c.width.result ≤ 33272
+few : (g : Over) (c : After-width g) → c.in_ok-count.count * c.width.result ≤ 33272
 few g c =
     let L = chain_lawful (g.C.BlockCode.code c.args.self.now.code) c.args.self.now.copies g.M.Mapping.map (g.met.C.BlockCode.lawful c.args.self.now.code) (g.met.C.RoomyCode.roomy c.args.self.now.code) g.met.M.Mapping.lawful in
-    rw (part_width (chained (g.C.BlockCode.code c.args.self.now.code) c.args.self.now.copies g.M.Mapping.map) L (length c.args.bits.now) c.in-ok-count.count c.width.result c.in-ok-count.ensures.1 c.width.ensures) (air_few (chained (g.C.BlockCode.code c.args.self.now.code) c.args.self.now.copies g.M.Mapping.map) L (length c.args.bits.now) c.in-ok-count.ensures.0.high)
+    rw (part_width (chained (g.C.BlockCode.code c.args.self.now.code) c.args.self.now.copies g.M.Mapping.map) L (length c.args.bits.now) c.in_ok-count.count c.width.result c.in_ok-count.ensures.1 c.width.ensures) (air_few (chained (g.C.BlockCode.code c.args.self.now.code) c.args.self.now.copies g.M.Mapping.map) L (length c.args.bits.now) c.in_ok-count.ensures.0.high)
 
 there : (g : Over) (c : After-width g) → There (chained (g.C.BlockCode.code c.args.self.now.code) c.args.self.now.copies g.M.Mapping.map) c.args.list.now c.args.at (length c.args.bits.now)
-there g c = record { carried = c.in-ok-count.ensures.0; long = omega (arith, c.in-ok-count.ensures.1, c.if-at-list.false, c.if-list-at.false) }
+there g c = record { carried = c.in_ok-count.ensures.0; long = omega (arith, c.in_ok-count.ensures.1, c.if-at-list.false, c.if-list-at.false) }
 
-pub overflow-mul-places : goal.overflow-mul-places
-overflow-mul-places g c = omega (arith, few g c)
+pub overflow_mul-places : goal.overflow_mul-places
+overflow_mul-places g c = omega (arith, few g c)
 
-pub slice-bounds-heard-end : goal.slice-bounds-heard-end
-slice-bounds-heard-end g c = omega (arith, few g c)
+pub slice_bounds-heard-end : goal.slice_bounds-heard-end
+slice_bounds-heard-end g c = omega (arith, few g c)
 
-pub hear-part-requires : goal.hear-part-requires
-hear-part-requires g c =
-    let a = (goal.at.hear-part-requires g c).After-width in
+pub hear_part-requires : goal.hear_part-requires
+hear_part-requires g c =
+    let a = (goal.at.hear_part-requires g c).After-width in
     record {
-      there = there_at (chained (g.C.BlockCode.code c.args.self.now.code) c.args.self.now.copies g.M.Mapping.map) c.args.list.now c.args.at (length c.args.bits.now) _ (length_front _ (length c.args.bits.now) 2112 refl c.in-ok-count.ensures.0.high) (there g a);
-      symbols = count_at (chained (g.C.BlockCode.code c.args.self.now.code) c.args.self.now.copies g.M.Mapping.map) (length c.args.bits.now) _ c.in-ok-count.count (length_front _ (length c.args.bits.now) 2112 refl c.in-ok-count.ensures.0.high) c.in-ok-count.ensures.1;
-      room = length_front _ (c.in-ok-count.count * c.width.result) 33272 refl (few g a) ∙ ap (λ w. c.in-ok-count.count * w) c.width.ensures;
+      there = there_at (chained (g.C.BlockCode.code c.args.self.now.code) c.args.self.now.copies g.M.Mapping.map) c.args.list.now c.args.at (length c.args.bits.now) _ (length_front _ (length c.args.bits.now) 2112 refl c.in_ok-count.ensures.0.high) (there g a);
+      symbols = count_at (chained (g.C.BlockCode.code c.args.self.now.code) c.args.self.now.copies g.M.Mapping.map) (length c.args.bits.now) _ c.in_ok-count.count (length_front _ (length c.args.bits.now) 2112 refl c.in_ok-count.ensures.0.high) c.in_ok-count.ensures.1;
+      room = length_front _ (c.in_ok-count.count * c.width.result) 33272 refl (few g a) ∙ ap (λ w. c.in_ok-count.count * w) c.width.ensures;
     }
 
-pub slice-bounds-copy-from-slice-end : goal.slice-bounds-copy-from-slice-end
-slice-bounds-copy-from-slice-end g c =
-    simp length-append (omega (arith, reach_long (chained (g.C.BlockCode.code c.args.self.now.code) c.args.self.now.copies g.M.Mapping.map) c.args.list.now c.args.at (length c.args.bits.now) _ c.hear-part.new.bits c.in-ok-spoilt.spoilt (length_front _ (length c.args.bits.now) 2112 refl c.in-ok-count.ensures.0.high) c.in-ok-spoilt.ensures))
+pub slice_bounds-copy_from_slice-end : goal.slice_bounds-copy_from_slice-end
+slice_bounds-copy_from_slice-end g c =
+    simp length-append (omega (arith, reach_long (chained (g.C.BlockCode.code c.args.self.now.code) c.args.self.now.copies g.M.Mapping.map) c.args.list.now c.args.at (length c.args.bits.now) _ c.hear_part.new.bits c.in_ok-spoilt.spoilt (length_front _ (length c.args.bits.now) 2112 refl c.in_ok-count.ensures.0.high) c.in_ok-spoilt.ensures))
 
 pub returns : goal.returns
 returns g c =
-    reach_at (chained (g.C.BlockCode.code c.args.self.now.code) c.args.self.now.copies g.M.Mapping.map) c.args.list.now c.args.at (length c.args.bits.now) _ c.hear-part.new.bits _ c.copy-from-slice.new.self c.in-ok-spoilt.spoilt (length_front _ (length c.args.bits.now) 2112 refl c.in-ok-count.ensures.0.high) c.in-ok-spoilt.ensures c.copy-from-slice.ensures.after
+    reach_at (chained (g.C.BlockCode.code c.args.self.now.code) c.args.self.now.copies g.M.Mapping.map) c.args.list.now c.args.at (length c.args.bits.now) _ c.hear_part.new.bits _ c.copy_from_slice.new.self c.in_ok-spoilt.spoilt (length_front _ (length c.args.bits.now) 2112 refl c.in_ok-count.ensures.0.high) c.in_ok-spoilt.ensures c.copy_from_slice.ensures.after

@@ -20,7 +20,7 @@ legal_frame g c =
       mode = g.Mode.Carrier.mode c.in-Some.payload;
       carried = c.in-Some.ensures;
       ranges = record { rate = omega arith; low = omega arith; high = omega arith; burst = omega arith; seed = omega (arith, L.seeds, c.args.self.now.bit) };
-      bytes = All-from_get_or Byte c.args.psdu.now 0 (λ i l. (c.type-inv.psdu i).fits);
+      bytes = All-from_get_or Byte c.args.psdu.now 0 (λ i l. (c.type_inv.psdu i).fits);
     }
 
 needed : (g : Over) (c : After-count g) → 90 + c.count-head.result + c.count.result ≡ length (symbols (g.P.RadioPlan.plan c.args.self.now.plan) c.args.self.now.channel (frame g c))
