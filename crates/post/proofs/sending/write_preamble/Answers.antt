@@ -17,7 +17,7 @@ sized g c =
 
 pub unreachable-requires : goal.unreachable-requires
 unreachable-requires g c =
-    c.in-default.ensures c.loop-i.invariant.known
+    c.in_default.ensures c.loop-i.invariant.known
     (going_bits (g.C.Carrier.mode c.args.mode.now).map (g.met.C.Carrier.lawful c.args.mode.now).map c.args.start c.loop-i.symbols c.args.bits.now c.loop-i.i c.loop-i.last c.loop-i.i
     c.loop-i.invariant (sized g (goal.at.unreachable-requires g c).In-loop-i) 1 (omega arith) (sym c.requires.one))
 

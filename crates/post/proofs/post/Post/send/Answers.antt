@@ -17,7 +17,7 @@ unfolding frame
 legal_frame g c =
     let L = g.met.P.RadioPlan.lawful c.args.self.now.plan in
     record {
-      mode = g.Mode.Carrier.mode c.in-Some.payload;
+      mode = g.P.Mode.Carrier.mode c.in-Some.payload;
       carried = c.in-Some.ensures;
       ranges = record { rate = omega arith; low = omega arith; high = omega arith; burst = omega arith; seed = omega (arith, L.seeds, c.args.self.now.bit) };
       bytes = All-from_get_or Byte c.args.psdu.now 0 (λ i l. (c.type_inv.psdu i).fits);
@@ -27,8 +27,8 @@ needed : (g : Over) (c : After-count g) → 90 + c.count-head.result + c.count.r
 unfolding frame
 needed g c =
     needed_is (g.P.RadioPlan.plan c.args.self.now.plan) (g.met.P.RadioPlan.lawful c.args.self.now.plan) c.args.self.now.channel (frame g c)
-    (g.Mode.Carrier.mode c.header-mode.result) (g.Mode.Carrier.mode c.in-Some.payload) g.Form.HeaderForm.form c.header-mode.ensures c.form-form.ensures c.in-Some.ensures
-    (legal_frame g c) c.bits-count.result c.count-head.result c.count.result c.bits-count.ensures c.count-head.ensures.value c.count.ensures.value
+    (g.P.Mode.Carrier.mode c.header-mode.result) (g.P.Mode.Carrier.mode c.in-Some.payload) g.P.Form.HeaderForm.form c.header-mode.ensures c.form-form.ensures c.in-Some.ensures
+    (legal_frame g c) c.bits_count.result c.count-head.result c.count.result c.bits_count.ensures c.count-head.ensures.value c.count.ensures.value
 
 pub returns-then-symbols-needed : goal.returns-then-symbols-needed
 unfolding frame
@@ -38,7 +38,7 @@ returns-then-symbols-needed g c =
       sends = (
         (
           omega arith,
-          (omega arith, (g.Mode.Carrier.mode c.in-Some.payload, c.in-Some.ensures)),
+          (omega arith, (g.P.Mode.Carrier.mode c.in-Some.payload, c.in-Some.ensures)),
           (omega arith, omega arith),
           c.if-symbols-needed.true,
           needed g (goal.at.returns-then-symbols-needed g c).After-count,
@@ -48,13 +48,13 @@ returns-then-symbols-needed g c =
       );
     }
 
-pub write-frame-requires : goal.write-frame-requires
+pub write_frame-requires : goal.write_frame-requires
 unfolding frame
-write-frame-requires g c =
-    let k = (goal.at.write-frame-requires g c).After-count in
+write_frame-requires g c =
+    let k = (goal.at.write_frame-requires g c).After-count in
     writable (g.P.RadioPlan.plan c.args.self.now.plan) (g.met.P.RadioPlan.lawful c.args.self.now.plan) c.args.self.now.channel (frame g k)
-    (g.Mode.Carrier.mode c.header-mode.result) (g.Mode.Carrier.mode c.in-Some.payload) g.Form.HeaderForm.form c.header-mode.ensures c.form-form.ensures c.in-Some.ensures
-    (legal_frame g k) c.bits-count.result c.count-head.result c.count.result c.bits-count.ensures c.count-head.ensures.value c.count.ensures.value
+    (g.P.Mode.Carrier.mode c.header-mode.result) (g.P.Mode.Carrier.mode c.in-Some.payload) g.P.Form.HeaderForm.form c.header-mode.ensures c.form-form.ensures c.in-Some.ensures
+    (legal_frame g k) c.bits_count.result c.count-head.result c.count.result c.bits_count.ensures c.count-head.ensures.value c.count.ensures.value
     c.start.result c.preamble-preamble.result _ c.start.ensures c.preamble-preamble.ensures (length-take-le _ c.args.symbols.now (omega (arith, c.if-symbols-needed.false)) ∙ omega arith)
 
 pub returns : goal.returns
@@ -65,14 +65,14 @@ returns g c =
       plan = refl;
       sends = (
         omega arith,
-        (omega arith, (g.Mode.Carrier.mode c.in-Some.payload, c.in-Some.ensures)),
+        (omega arith, (g.P.Mode.Carrier.mode c.in-Some.payload, c.in-Some.ensures)),
         (omega arith, omega arith),
         c.if-symbols-needed.false,
         needed g k,
         put (g.P.RadioPlan.plan c.args.self.now.plan) (g.met.P.RadioPlan.lawful c.args.self.now.plan) c.args.self.now.channel (frame g k)
-            (g.Mode.Carrier.mode c.header-mode.result) (g.Mode.Carrier.mode c.in-Some.payload) g.Form.HeaderForm.form c.header-mode.ensures c.form-form.ensures c.in-Some.ensures
-            (legal_frame g k) c.bits-count.result c.count-head.result c.count.result c.bits-count.ensures c.count-head.ensures.value c.count.ensures.value
-            c.start.result c.preamble-preamble.result c.write-frame.new.symbols c.args.symbols.now c.start.ensures c.preamble-preamble.ensures c.write-frame.ensures,
+            (g.P.Mode.Carrier.mode c.header-mode.result) (g.P.Mode.Carrier.mode c.in-Some.payload) g.P.Form.HeaderForm.form c.header-mode.ensures c.form-form.ensures c.in-Some.ensures
+            (legal_frame g k) c.bits_count.result c.count-head.result c.count.result c.bits_count.ensures c.count-head.ensures.value c.count.ensures.value
+            c.start.result c.preamble-preamble.result c.write_frame.new.symbols c.args.symbols.now c.start.ensures c.preamble-preamble.ensures c.write_frame.ensures,
         refl,
       );
     }
