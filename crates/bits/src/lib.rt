@@ -1,4 +1,6 @@
 // Bit strings, and the answer to a call with arguments that no rule covers.
+#![tactic(auto)]
+
 pub mod bad_call;
 
 ghost use Rattle.std.specs.Prelude.{◌≡◌, Decides};

@@ -1,10 +1,10 @@
 -- The remainder holds the remainder of D^12 times the message.
-use Rattle.std.proofs.Common.{◌≡◌, ℕ, zero, suc, ◌+◌, ◌*◌, ◌/◌, ◌%◌, ◌^◌, ◌<◌, ◌≤◌, List, [], ◌∷◌, length, sym, refl, ap, ◌∙◌, ap₂, mul_assoc, mul_comm, pow-suc, zero-mul, arith, pow_pos}
+use Rattle.std.proofs.Common.{◌≡◌, ℕ, zero, suc, ◌+◌, ◌*◌, ◌/◌, ◌%◌, ◌^◌, ◌<◌, List, [], ◌∷◌, length, sym, refl, ap, ◌∙◌, ap₂, mul_assoc, mul_comm, pow-suc, zero-mul, arith, pow_pos}
 use lib.Bits.{bit_xor, xor_assoc, xor_comm, xor_zero_r, xor_block, xor_shifted, xor_lt}
 use Rattle.std.specs.List.{AllByRecursion as All}
 use Rattle.bits.specs.Strings.{Bit}
-use Rattle.block_code.specs.Bch.{pick, sum_at, remainder, divided, product, parity, Divides}
-use Rattle.block_code.specs.Linear.{pick-xor, pick-map, xor_left, xor_swap}
+use Rattle.block_code.specs.Bch.{pick, remainder, divided, product, parity, Divides}
+use Rattle.block_code.specs.Linear.{pick-xor, pick-map, xor_left}
 use Rattle.block_code.proofs.Loops.{divided-lt}
 
 shifted : (a b n : ℕ) → bit_xor a b * 2 ^ n ≡ bit_xor (a * 2 ^ n) (b * 2 ^ n)

@@ -1,15 +1,15 @@
 -- Places turned round, and what the search for them shows.
-use Rattle.std.proofs.Common.{◌≡◌, ℕ, zero, suc, ◌+◌, ◌-◌, ◌*◌, ◌/◌, ◌%◌, ◌^◌, ◌<◌, ◌≤◌, eqb, ◌≢◌, ◌⊎◌, List, [], ◌∷◌, ◌++◌, length, get_or, take, drop, set, sym, refl, ap, ◌∙◌, ap₂, inl, inr, arith, length-append, length-drop, length-set, take-append-drop, length-take}
+use Rattle.std.proofs.Common.{◌≡◌, ℕ, zero, suc, ◌+◌, ◌-◌, ◌*◌, ◌/◌, ◌%◌, ◌<◌, ◌≤◌, ◌≢◌, List, [], ◌∷◌, ◌++◌, length, get_or, take, drop, set, sym, refl, ap, ◌∙◌, ap₂, inl, inr, arith, length-append, length-drop, length-set, take-append-drop, length-take}
 use lib.Bits.{bit_xor, xor_assoc, xor_zero_r, xor_self, xor_lt, xor_block}
 use Rattle.std.proofs.ByRecursion.{All-append, All-take, All-drop}
-use Rattle.std.proofs.lemmas.Bool.{cases_lt, eq-eqb}
+use Rattle.std.proofs.lemmas.Bool.{cases_lt}
 use Rattle.std.proofs.lemmas.List.{get_or-set_other}
 use Rattle.std.specs.List.{AllByRecursion as All}
 use Rattle.bits.specs.Strings.{Bit, Bits}
-use Rattle.block_code.specs.Codes.{distance, Code, word}
+use Rattle.block_code.specs.Codes.{distance}
 use Rattle.block_code.specs.Answers.{Corrected, Far}
 use Rattle.block_code.specs.Bch.{pick, sum_at, power, times, cubed, first, third, parity, bch63, Fits1, Fits2, Vanish, Only}
-use Rattle.block_code.specs.Linear.{added, length-added, sum_added, pick-xor, xor_left, xor_swap}
+use Rattle.block_code.specs.Linear.{added, length-added, sum_added, pick-xor, xor_left}
 use Rattle.block_code.specs.Words.{word-zero, zero_word, length-parity}
 use Rattle.block_code.specs.Distances.{distance_self}
 use Rattle.block_code.specs.Places.{places, total, sum-places, Falls, places_fall, length-places}

@@ -1,5 +1,5 @@
 -- The BCH code 63/51, which corrects two wrong bits of a word.
-use Rattle.std.specs.Prelude.{◌≡◌, ℕ, zero, suc, ◌+◌, ◌*◌, ◌/◌, ◌%◌, ◌^◌, ◌<◌, List, [], ◌∷◌, ◌++◌, length, Ok, Err, Result, bit_xor}
+use Rattle.std.specs.Prelude.{◌≡◌, ℕ, zero, suc, ◌*◌, ◌/◌, ◌%◌, ◌^◌, ◌<◌, List, [], ◌∷◌, ◌++◌, length, Ok, Err, Result, bit_xor}
 use Rattle.bits.specs.declared.bad_call.BadCall.{BadCall}
 use Rattle.bits.specs.Strings.{Bits}
 use Rattle.block_code.specs.Codes.{Code, word}

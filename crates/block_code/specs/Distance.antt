@@ -1,5 +1,5 @@
 -- Two words differ in five places at least.
-use Rattle.std.specs.Prelude.{◌≡◌, ℕ, zero, suc, ◌+◌, ◌*◌, ◌<◌, ◌≤◌, ◌⊎◌, List, [], ◌∷◌, ◌++◌, length, take, replicate, bit_xor, slice_index, slice_set, refl}
+use Rattle.std.specs.Prelude.{◌≡◌, ℕ, suc, ◌<◌, ◌≤◌, List, [], ◌∷◌, ◌++◌, length, take, replicate, bit_xor, slice_index, slice_set, refl}
 use Rattle.std.proofs.Common.{ap, ap₂, sym, ◌∙◌, arith, length-append, inl, inr}
 use Rattle.std.specs.Int.Bits.{xor_zero_r, xor_assoc, xor_self}
 use Rattle.std.proofs.ByRecursion.{All-append, All-set}
@@ -7,8 +7,8 @@ use Rattle.std.proofs.lemmas.Bool.{cases_lt}
 use Rattle.std.proofs.lemmas.List.{take_at}
 use Rattle.std.specs.List.{AllByRecursion as All}
 use Rattle.bits.specs.Strings.{Bit, Bits}
-use Rattle.block_code.specs.Codes.{distance, Code, word, Apart, MinimumDistance}
-use Rattle.block_code.specs.Bch.{sum_at, parity, bch63, bits_of, remainder, divided}
+use Rattle.block_code.specs.Codes.{distance, word, Apart, MinimumDistance}
+use Rattle.block_code.specs.Bch.{sum_at, parity, bch63, remainder, divided}
 use Rattle.block_code.specs.Linear.{added, length-added, sum_added, bits_bits}
 use Rattle.block_code.specs.Words.{word-zero, length-parity, xor_same}
 use Rattle.block_code.specs.Distances.{same_from_distance}

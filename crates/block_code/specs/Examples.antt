@@ -1,5 +1,5 @@
 -- Worked examples of the code 63/51.
-use Rattle.std.specs.Prelude.{◌≡◌, ℕ, List, [], ◌∷◌, ◌++◌, replicate}
+use Rattle.std.specs.Prelude.{◌≡◌, [], ◌∷◌, ◌++◌, replicate}
 use Rattle.block_code.specs.Codes.{shortened}
 use Rattle.block_code.specs.Bch.{bch63, parity}
 

@@ -1,9 +1,9 @@
 -- What is proved of every block code.
-use Rattle.std.specs.Prelude.{◌≡◌, ℕ, ◌+◌, ◌<◌, ◌≤◌, List, Ok, Err, Result}
+use Rattle.std.specs.Prelude.{◌≡◌, ℕ, ◌+◌, ◌≤◌, List, Ok, Err, Result}
 use Rattle.bits.specs.Strings.{Bits}
 use Rattle.block_code.specs.declared.fault.CorrectFault.{CorrectFault}
 use Rattle.block_code.specs.declared.fault.CorrectFault.TheVariants.{NoWordNear}
-use Rattle.block_code.specs.Codes.{Code, word, distance, Lawful, shortened}
+use Rattle.block_code.specs.Codes.{Code, word, distance}
 use Rattle.block_code.specs.Answers.{Far, Corrects}
 
 -- a correction of these bits may answer r and leave these

@@ -1,13 +1,13 @@
 -- At most one word is near, in any lawful code, so that a correction has one answer.
-use Rattle.std.specs.Prelude.{◌≡◌, ℕ, zero, suc, ◌+◌, ◌*◌, ◌<◌, ◌≤◌, ◌⊎◌, List, [], ◌∷◌, ◌++◌, length, Ok, Err, Result, refl}
-use Rattle.std.proofs.Common.{ap, sym, ◌∙◌, subst, inl, inr, arith, length-append}
+use Rattle.std.specs.Prelude.{◌≡◌, ℕ, zero, suc, ◌+◌, ◌*◌, ◌≤◌, ◌⊎◌, List, [], ◌∷◌, length, Ok, Err, Result, refl}
+use Rattle.std.proofs.Common.{ap, sym, ◌∙◌, inl, inr, arith, length-append}
 use Rattle.std.specs.List.{AllByRecursion as All}
 use Rattle.std.proofs.lemmas.Bool.{cases_eq, cases_lt}
 use Rattle.bits.specs.Strings.{Bit, Bits}
 use Rattle.block_code.specs.declared.fault.CorrectFault.{CorrectFault}
 use Rattle.block_code.specs.declared.fault.CorrectFault.TheVariants.{Call, NoWordNear}
 use Rattle.block_code.specs.Codes.{Code, word, distance, Lawful}
-use Rattle.block_code.specs.Answers.{Corrected, Far, Corrects}
+use Rattle.block_code.specs.Answers.{Corrects}
 use Rattle.block_code.specs.Laws.{Near, OneCorrection, SomeCorrection}
 use Rattle.block_code.specs.Distances.{distance_self, distance_via, distance_comm, same_from_distance}
 

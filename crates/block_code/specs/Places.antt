@@ -1,13 +1,11 @@
 -- The set places of a list of bits, and where two lists differ.
-use Rattle.std.specs.Prelude.{◌≡◌, ℕ, zero, suc, ◌+◌, ◌*◌, ◌<◌, ◌≤◌, true, false, cond, ◌⊎◌, List, [], ◌∷◌, ◌++◌, length, bit_xor, refl}
-use Rattle.std.proofs.Common.{ap, ap₂, sym, ◌∙◌, arith, inl, inr}
-use Rattle.std.specs.Int.Bits.{xor_self}
-use Rattle.std.proofs.lemmas.Bool.{eqb-true, cases_Bool, eq-eqb}
+use Rattle.std.specs.Prelude.{◌≡◌, ℕ, zero, suc, ◌<◌, List, [], ◌∷◌, length, bit_xor, refl}
+use Rattle.std.proofs.Common.{ap, ◌∙◌, arith}
 use Rattle.std.specs.List.{AllByRecursion as All}
 use Rattle.bits.specs.Strings.{Bit}
 use Rattle.block_code.specs.Codes.{distance}
-use Rattle.block_code.specs.Bch.{pick, sum_at}
-use Rattle.block_code.specs.Linear.{added, length-added}
+use Rattle.block_code.specs.Bch.{sum_at}
+use Rattle.block_code.specs.Linear.{added}
 
 abbrev pub with : ℕ → ℕ → List ℕ → List ℕ
 with zero n ps = ps

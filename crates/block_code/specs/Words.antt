@@ -1,9 +1,8 @@
 -- The words are the lists of 63 bits whose two sums are zero.
-use Rattle.std.specs.Prelude.{◌≡◌, ℕ, zero, suc, ◌+◌, ◌*◌, ◌/◌, ◌%◌, ◌^◌, ◌<◌, ◌≤◌, Bool, T, List, [], ◌∷◌, ◌++◌, length, bit_xor, nat_eq, slice_index, refl}
+use Rattle.std.specs.Prelude.{◌≡◌, ℕ, zero, suc, ◌+◌, ◌*◌, ◌/◌, ◌%◌, ◌^◌, ◌<◌, T, List, [], ◌∷◌, ◌++◌, length, bit_xor, nat_eq, slice_index, refl}
 use Rattle.std.proofs.Common.{ap, ap₂, sym, ◌∙◌, arith, pow-suc, one-mul, mul_assoc, add-mul, mul_comm, eqb→eq}
-use Rattle.std.proofs.Math.Nat.{zero-div}
-use Rattle.std.specs.Int.Bits.{xor_assoc, xor_self, xor_zero_r, xor_zero_l, xor_shifted}
-use Rattle.std.proofs.lemmas.Nat.{shr_high, xor_comm, xor_shr, xor_mod, xor_block, xor_lt}
+use Rattle.std.specs.Int.Bits.{xor_assoc, xor_self, xor_zero_r, xor_shifted}
+use Rattle.std.proofs.lemmas.Nat.{shr_high, xor_shr, xor_mod, xor_block}
 use Rattle.std.specs.List.{AllByRecursion as All}
 use Rattle.bits.specs.Strings.{Bit}
 use Rattle.block_code.specs.Bch.{pick, sum_at, bits_of, remainder, divided, parity, power, times}

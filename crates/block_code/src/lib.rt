@@ -1,4 +1,6 @@
 // Block codes over bits: the code 63/51, the plain code, and any code shortened.
+#![tactic(auto)]
+
 pub mod bch63;
 pub mod code;
 pub mod fault;

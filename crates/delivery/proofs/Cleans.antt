@@ -1,9 +1,8 @@
 -- What is sent, from the last preamble symbol on, is within reach of its frame, and no bit is spoilt.
-use Rattle.std.proofs.Common.{◌≡◌, ℕ, zero, suc, ◌+◌, ◌*◌, ◌%◌, ◌<◌, ◌≤◌, Bool, true, false, cond, eqb, List, [], ◌∷◌, ◌++◌, length, get_or, take, drop, Some, None, Option, sym, refl, ap, ◌∙◌, subst, ap₂, arith, length-append}
+use Rattle.std.proofs.Common.{◌≡◌, ℕ, zero, suc, ◌+◌, ◌*◌, ◌%◌, ◌<◌, ◌≤◌, true, false, cond, eqb, List, [], ◌∷◌, ◌++◌, length, get_or, take, drop, sym, refl, ap, ◌∙◌, subst, ap₂, arith, length-append}
 use Rattle.std.specs.List.{AllByRecursion as All}
 use Rattle.std.proofs.lemmas.List.{take_at, take_all, drop_at, drop-append-le}
 use Rattle.bits.specs.Strings.{Bits}
-use Rattle.mapping.specs.Maps.{Map}
 use Rattle.frame.specs.Headers as forms
 use Rattle.frame.specs.Scrambler.{scrambled}
 use Rattle.frame.proofs.Scrambling.{scrambled_bits}

@@ -1,7 +1,6 @@
 -- What the header of a heard list comes to: a fault, or fields and the mode of the payload. It comes to one of them.
-use Rattle.std.proofs.Common.{◌≡◌, ℕ, ◌+◌, ◌*◌, ◌<◌, ◌≤◌, ◌⊎◌, List, length, replicate, Some, Ok, Err, Result, sym, refl, ap, ◌∙◌, subst, inl, inr, arith}
+use Rattle.std.proofs.Common.{◌≡◌, ℕ, ◌+◌, ◌≤◌, List, length, replicate, Ok, Err, Result, ap, subst, arith}
 use lib.ListN.{length-replicate}
-use Rattle.bits.specs.Strings.{Bits}
 use Rattle.frame.specs.declared.fault.FormFault.{FormFault}
 use Rattle.frame.specs.Headers.{Fields, Read, InRange}
 use Rattle.frame.specs.Headers as forms
@@ -9,7 +8,7 @@ use Rattle.frame.specs.Reading.{read_one, read_some}
 use Rattle.mode.specs.declared.fault.PartFault.{PartFault}
 use Rattle.mode.specs.declared.fault.HearFault.{HearFault}
 use Rattle.mode.specs.declared.fault.HearFault.TheVariants.{Part, Call}
-use Rattle.mode.specs.Modes.{Mode, count}
+use Rattle.mode.specs.Modes.{Mode}
 use Rattle.mode.specs.Parts as parts
 use Rattle.mode.specs.Answers.{Faulty}
 use Rattle.mode.specs.Answers as modes
@@ -17,7 +16,7 @@ use Rattle.mode.proofs.Hearings.{one_reach, reach_faultless, one_fault, hears_to
 use Rattle.delivery.specs.declared.fault.HeaderFault.{HeaderFault}
 use Rattle.delivery.specs.declared.fault.HeaderFault.TheVariants.{Part as HeaderPart, Form}
 use Rattle.delivery.specs.Plans.{Plan, Lawful, legal}
-use Rattle.delivery.specs.Frames.{Frame, fields, Legal, Reach, header_count, needed}
+use Rattle.delivery.specs.Frames.{Frame, fields, Legal, Reach, header_count}
 use Rattle.delivery.specs.Calls.{Headed, HeaderFaulty, Said}
 use Rattle.delivery.proofs.Rates.{carried-legal, legal-carried}
 

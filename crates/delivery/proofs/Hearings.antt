@@ -1,16 +1,14 @@
 -- A hearing has one answer: the one legal frame that has the list within reach, or the first fault.
-use Rattle.std.proofs.Common.{◌≡◌, ℕ, ◌+◌, ◌*◌, ◌<◌, ◌≤◌, ◌⊎◌, List, ◌++◌, length, drop, replicate, Some, Ok, Err, Result, sym, refl, ap, ◌∙◌, subst, ap₂, inl, inr, arith}
+use Rattle.std.proofs.Common.{◌≡◌, ℕ, ◌+◌, ◌*◌, ◌<◌, ◌≤◌, List, ◌++◌, length, drop, replicate, Ok, Err, Result, sym, refl, ap, ◌∙◌, subst, ap₂, inl, inr, arith}
 use lib.ListN.{length-replicate}
 use Rattle.std.specs.List.{AllByRecursion as All}
 use Rattle.std.proofs.lemmas.Bool.{cases_lt, cases_eq}
-use Rattle.bits.specs.Strings.{Bits}
 use Rattle.frame.specs.Numbers.{Byte}
 use Rattle.frame.specs.Headers.{Fields, InRange}
 use Rattle.frame.specs.Headers as forms
 use Rattle.frame.specs.Scrambler.{scrambled}
 use Rattle.frame.specs.Reading.{headers_are_apart}
 use Rattle.frame.proofs.Scrambling.{scrambled_apart, scrambled_onto}
-use Rattle.mode.specs.declared.fault.PartFault.{PartFault}
 use Rattle.mode.specs.declared.fault.HearFault.{HearFault}
 use Rattle.mode.specs.declared.fault.HearFault.TheVariants.{Part, Call}
 use Rattle.mode.specs.Modes.{Mode, count}
@@ -28,7 +26,7 @@ use Rattle.delivery.specs.declared.fault.PayloadFault.{PayloadFault}
 use Rattle.delivery.specs.declared.fault.PayloadFault.TheVariants.{Length, Part as PayloadPart}
 use Rattle.delivery.specs.Plans.{Plan, Lawful, legal}
 use Rattle.delivery.specs.Frames.{Frame, fields, Legal, Reach, header_count, needed}
-use Rattle.delivery.specs.Calls.{Headed, HeaderFaulty, Said, PayloadFaulty, NotHeard, frame_of, Delivers, Hears}
+use Rattle.delivery.specs.Calls.{HeaderFaulty, Said, PayloadFaulty, NotHeard, frame_of, Delivers, Hears}
 use Rattle.delivery.specs.Delivery.{OneFrame, RefusedExactly, HearsOnce}
 use Rattle.delivery.proofs.Fronts.{Front, faults, says, FrontIs, one_front, some_front, reach_said}
 

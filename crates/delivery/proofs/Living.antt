@@ -1,5 +1,5 @@
 -- Whole lives: what each accepted send wrote, the seeds, and what is heard.
-use Rattle.std.proofs.Common.{◌≡◌, ℕ, zero, suc, ◌+◌, ◌-◌, ◌%◌, ◌<◌, ◌≤◌, List, [], ◌∷◌, ◌++◌, map, length, take, drop, Some, Ok, Err, Result, sym, refl, ap, ◌∙◌, arith}
+use Rattle.std.proofs.Common.{◌≡◌, ℕ, ◌%◌, ◌<◌, ◌≤◌, List, [], ◌∷◌, ◌++◌, map, length, drop, Some, Ok, Err, Result, sym, refl, ap, ◌∙◌, arith}
 use Rattle.std.specs.List.{range_with_len, AllByRecursion as All}
 use Rattle.std.proofs.lemmas.List.FromFn.{map-range_with_len_more}
 use Rattle.std.proofs.ByRecursion.{All-push}
@@ -7,10 +7,10 @@ use Rattle.std.proofs.lemmas.List.{length_push, map_push, take_at}
 use Rattle.frame.specs.Numbers.{Byte}
 use Rattle.delivery.specs.declared.fault.Fault.{Fault}
 use Rattle.delivery.specs.Plans.{Plan, Lawful}
-use Rattle.delivery.specs.Frames.{Frame, Legal, Reach, symbols}
-use Rattle.delivery.specs.Calls.{State, Request, framed, Opens, Retunes, Sends, Hears}
+use Rattle.delivery.specs.Frames.{Frame, Legal, Reach}
+use Rattle.delivery.specs.Calls.{State, Request, framed, Retunes, Sends, Hears}
 use Rattle.delivery.specs.Lives.{Sending, Life, opened, retuned, refused, sent}
-use Rattle.delivery.specs.Delivery.{Written, Hearing, Told, told, told_by, HeardEach, none, one, LivesDeliver}
+use Rattle.delivery.specs.Delivery.{Written, Hearing, Told, told, HeardEach, none, one, LivesDeliver}
 use Rattle.delivery.proofs.Hearings.{only, delivers}
 
 retunes_seed : (P : Plan) (s t : State) (c : ℕ) (r : Result (Unit {0}) Fault) → Retunes P s c t r → t.seed ≡ s.seed

@@ -1,9 +1,7 @@
 -- The four calls of a post, as relations of what goes in and what comes out.
 use Rattle.std.specs.Prelude.{◌≡◌, ℕ, ◌+◌, ◌-◌, ◌*◌, ◌<◌, ◌≤◌, List, ◌++◌, length, drop, Some, Ok, Err, Result, ◌≢◌}
-use Rattle.frame.specs.declared.fault.FormFault.{FormFault}
 use Rattle.frame.specs.Headers.{Fields, Read}
 use Rattle.frame.specs.Headers as forms
-use Rattle.mode.specs.declared.fault.PartFault.{PartFault}
 use Rattle.mode.specs.Modes.{Mode}
 use Rattle.mode.specs.Parts as parts
 use Rattle.mode.specs.Answers.{Faulty}

@@ -1,5 +1,5 @@
 -- Frames, the symbols of a frame, and which heard lists are within reach of it.
-use Rattle.std.specs.Prelude.{◌≡◌, ℕ, ◌+◌, ◌*◌, ◌%◌, ◌≤◌, cond, List, [], ◌∷◌, ◌++◌, length, Some, None, Option, ◌==◌}
+use Rattle.std.specs.Prelude.{◌≡◌, ℕ, ◌+◌, ◌*◌, ◌%◌, cond, List, [], ◌∷◌, ◌++◌, length, Some, None, Option, ◌==◌}
 use Rattle.std.specs.List.{AllByRecursion as All}
 use Rattle.frame.specs.Numbers.{Byte}
 use Rattle.frame.specs.Headers.{Fields, InRange, header}

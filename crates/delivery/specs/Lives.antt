@@ -1,5 +1,5 @@
 -- The life of a sending post: its accepted opening, then sends and retunings in any order, refused ones among them.
-use Rattle.std.specs.Prelude.{◌≡◌, ℕ, List, [], ◌∷◌, ◌++◌, Ok, Err, Result}
+use Rattle.std.specs.Prelude.{ℕ, List, [], ◌∷◌, ◌++◌, Ok, Err, Result}
 use Rattle.std.specs.List.{AllByRecursion as All}
 use Rattle.frame.specs.Numbers.{Byte}
 use Rattle.delivery.specs.declared.fault.Fault.{Fault}

@@ -1,5 +1,5 @@
 -- Plans: which modes a radio uses for what.
-use Rattle.std.specs.Prelude.{◌≡◌, ℕ, ◌<◌, ◌≤◌, Bool, List, [], ◌∷◌, is_some, Some, None, Option}
+use Rattle.std.specs.Prelude.{◌≡◌, ℕ, ◌<◌, Bool, List, [], ◌∷◌, is_some, Some, Option}
 use Rattle.bits.specs.Strings.{Bits}
 use Rattle.frame.specs.Headers.{Form}
 use Rattle.frame.specs.Headers as forms

@@ -4,9 +4,7 @@ use Rattle.frame.specs.Refusals.{form_number, form_place}
 use Rattle.mode.specs.Faults as parts
 use Rattle.delivery.specs.declared.fault.Fault.{Fault}
 use Rattle.delivery.specs.declared.fault.Fault.TheVariants.{Band, Channel, Burst, Rate, Psdu, Buffer, Output, List, Header, Payload}
-use Rattle.delivery.specs.declared.fault.HeaderFault.{HeaderFault}
 use Rattle.delivery.specs.declared.fault.HeaderFault.TheVariants.{Part as HeaderPart, Form}
-use Rattle.delivery.specs.declared.fault.PayloadFault.{PayloadFault}
 use Rattle.delivery.specs.declared.fault.PayloadFault.TheVariants.{Length, Part as PayloadPart}
 
 abbrev pub number : Fault → ℕ

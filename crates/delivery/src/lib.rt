@@ -1,4 +1,6 @@
 // What a post's calls answer, and the delivery theorem: nothing is lost and nothing is invented.
+#![tactic(auto)]
+
 pub mod delivered;
 pub mod fault;
 

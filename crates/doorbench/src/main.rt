@@ -1,4 +1,6 @@
 // A bench for the door radio: reads commands from standard input, one a line, does them and prints what it did.
+#![tactic(auto)]
+
 mod carry;
 mod command;
 mod headers;

@@ -1,12 +1,11 @@
 -- The scrambler's sequence: its recurrence, and the register of the code.
-use Rattle.std.proofs.Common.{◌≡◌, ℕ, zero, suc, ◌+◌, ◌-◌, ◌*◌, ◌/◌, ◌%◌, ◌^◌, ◌<◌, ◌≤◌, Bool, true, false, cond, eqb, List, [], ◌∷◌, ◌++◌, map, length, get_or, take, sym, refl, ap, ◌∙◌, ap₂, add-zero, add-suc, add_comm, add-one, arith}
+use Rattle.std.proofs.Common.{◌≡◌, ℕ, zero, suc, ◌+◌, ◌-◌, ◌*◌, ◌/◌, ◌%◌, ◌^◌, ◌<◌, Bool, true, false, cond, eqb, [], ◌∷◌, ◌++◌, map, length, get_or, take, sym, refl, ap, ◌∙◌, ap₂, add-zero, add-suc, add_comm, add-one, arith}
 use lib.Bits.{bit_and, bit_or, bit_xor, and_mask, or_shifted, or_shifted_r, xor_add_and}
-use Rattle.std.specs.List.{range_with_len, AllByRecursion as All}
+use Rattle.std.specs.List.{range_with_len}
 use Rattle.std.proofs.lemmas.Nat.{shl_whole}
 use Rattle.std.proofs.lemmas.List.FromFn.{length-map-range_with_len, map-range_with_len_more}
-use Rattle.std.proofs.lemmas.List.{get_or-take, take_all}
-use Rattle.std.proofs.ByRecursion.{All-take}
-use Rattle.bits.specs.Strings.{Bit, Bits}
+use Rattle.std.proofs.lemmas.List.{get_or-take}
+use Rattle.bits.specs.Strings.{Bits}
 use Rattle.frame.specs.Numbers.{low_bits, number_of}
 use Rattle.frame.specs.Registers.{mask, Holds}
 use Rattle.frame.specs.Scrambler.{start, next, before, keystream}

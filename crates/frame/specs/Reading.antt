@@ -1,14 +1,14 @@
 -- The bits of a header are read as one thing, in any form.
-use Rattle.std.specs.Prelude.{◌≡◌, ℕ, zero, suc, ◌+◌, ◌<◌, ◌≤◌, Bool, true, false, ◌⊎◌, List, [], ◌∷◌, length, get_or, take, drop, Ok, Err, Result, slice_index, slice_index_or, refl}
+use Rattle.std.specs.Prelude.{◌≡◌, ℕ, zero, suc, ◌<◌, ◌≤◌, Bool, true, false, ◌⊎◌, List, [], ◌∷◌, get_or, take, drop, Ok, Err, Result, slice_index, slice_index_or, refl}
 use Rattle.std.proofs.Common.{sym, ap, ◌∙◌, inl, inr, arith}
 use Rattle.std.specs.List.{ContainsAt as Has, AllByRecursion as All}
 use Rattle.std.proofs.lemmas.Bool.{cases_eq, cases_lt, cases_Bool, false≢true}
 use Rattle.std.proofs.ByRecursion.{all-has, All-weaker}
-use Rattle.bits.specs.Strings.{Bit, Bits}
+use Rattle.bits.specs.Strings.{Bit}
 use Rattle.frame.specs.declared.fault.FormFault.{FormFault}
 use Rattle.frame.specs.declared.fault.FormFault.TheVariants.{Check, Reserved, Rate}
-use Rattle.frame.specs.Headers.{Fields, Form, count, header, InRange, Checked, Clear, LowestSet, Carried, Read, Lawful}
-use Rattle.frame.specs.Laws.{ReadOnce, ReadingIsSingle, HeadersAreApart}
+use Rattle.frame.specs.Headers.{Fields, Form, header, Checked, Clear, LowestSet, Carried, Read, Lawful}
+use Rattle.frame.specs.Laws.{ReadingIsSingle, HeadersAreApart}
 
 abbrev pub Either : Type 0 → Type 0
 Either A = A ⊎ (A → ⊥)

@@ -1,6 +1,5 @@
 -- The number, layer and place by which each fault of a header is told.
 use Rattle.std.specs.Prelude.{ℕ}
-use Rattle.bits.specs.declared.bad_call.BadCall.{BadCall}
 use Rattle.frame.specs.declared.fault.FormFault.{FormFault}
 use Rattle.frame.specs.declared.fault.FormFault.TheVariants.{Check, Reserved, Rate}
 use Rattle.frame.specs.declared.fault.ReadHeaderFault.{ReadHeaderFault}

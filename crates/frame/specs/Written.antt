@@ -1,5 +1,5 @@
 -- The narrowband header: what is written is read again, and what is read was written.
-use Rattle.std.specs.Prelude.{◌≡◌, ℕ, ◌+◌, ◌-◌, ◌*◌, ◌^◌, ◌<◌, ◌≤◌, Bool, List, [], ◌∷◌, ◌++◌, map, reverse, length, take, drop, Ok, Err, Decides, Result, slice_index, slice_index_or, slice_set, refl}
+use Rattle.std.specs.Prelude.{◌≡◌, ℕ, ◌+◌, ◌-◌, ◌*◌, ◌<◌, ◌≤◌, Bool, List, [], ◌∷◌, ◌++◌, map, length, take, drop, Ok, Err, Decides, Result, slice_index, slice_index_or, slice_set, refl}
 use Rattle.std.proofs.Math.Path.{sym, ap}
 use Rattle.std.proofs.Common.{subst, ◌∙◌}
 use native.Mathlib.Omega.{arith}
@@ -14,7 +14,7 @@ use Rattle.frame.specs.declared.fault.FormFault.TheVariants.{Rate}
 use Rattle.frame.specs.declared.fault.ReadHeaderFault.{ReadHeaderFault}
 use Rattle.frame.specs.declared.fault.ReadHeaderFault.TheVariants.{Form as Faulty}
 use Rattle.frame.specs.Numbers.{low_bits, number_of}
-use Rattle.frame.specs.Headers.{Fields, count, header, InRange, Checked, Clear, Carried, Read, Lawful}
+use Rattle.frame.specs.Headers.{Fields, header, InRange, Checked, Clear, Carried, Read, Lawful}
 use Rattle.frame.specs.Answers.{fields_of, Reads}
 use Rattle.frame.specs.Narrowband.{register, hcs, said, fields, narrowband}
 use Rattle.frame.specs.Numbering.{cons_bits, append_bits, take_bits, drop_bits, low_bits_bits, number_low, number_below, low_number}

@@ -1,4 +1,6 @@
 // The header of a frame and the scrambler of its PSDU.
+#![tactic(auto)]
+
 pub mod fault;
 pub mod form;
 pub mod header;

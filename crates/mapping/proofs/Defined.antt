@@ -6,7 +6,7 @@ use Rattle.mapping.specs.declared.fault.ReadFault.{ReadFault}
 use Rattle.mapping.specs.declared.fault.ReadFault.TheVariants.{Call, NoSuchStep}
 use Rattle.mapping.specs.Maps.{Map, Lawful}
 use Rattle.mapping.specs.Answers.{Steps, Reads, Readable}
-use Rattle.mapping.specs.Laws.{AlwaysSteps, StepsOnce, AlwaysReads, ReadsOnce, ReadsSteps, ReadsBack, Defined, LawfulIsDefined}
+use Rattle.mapping.specs.Laws.{AlwaysSteps, StepsOnce, AlwaysReads, ReadsOnce, ReadsSteps, ReadsBack, LawfulIsDefined}
 
 -- one bit more in front, and one less
 longer : (n b : ℕ) (bs : List ℕ) → b < 2 → Bits n bs → Bits (suc n) (b ∷ bs)

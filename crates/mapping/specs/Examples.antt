@@ -1,6 +1,5 @@
 -- Worked examples of the phase mappings.
-use Rattle.std.specs.Prelude.{◌≡◌, ℕ, List, [], ◌∷◌}
-use Rattle.mapping.specs.Maps.{Map}
+use Rattle.std.specs.Prelude.{◌≡◌, [], ◌∷◌}
 use Rattle.mapping.specs.Mappings.{dbpsk, dqpsk, d8psk}
 
 -- From phase 4, DBPSK with 0 then 1 gives 8 and 4, and DQPSK with 10 gives 2. From 2, D8PSK with 110 gives 11.

@@ -1,4 +1,6 @@
 // Mappings of bits to symbols.
+#![tactic(auto)]
+
 pub mod fault;
 mod gmsk;
 mod phase;

@@ -7,7 +7,7 @@ use Rattle.std.proofs.lemmas.List.{same_lists, length-take-le, length-drop, leng
 use Rattle.std.proofs.lemmas.Slice.{take-put_mid}
 use Rattle.std.proofs.lemmas.Nat.{div-mul-add, mod-mul-add, mul-le}
 use Rattle.mode.specs.declared.air_bit.AirBit.{AirBit}
-use Rattle.mode.specs.Orders.{Copied, turned, blocked, headed, lead, forth, back, permuted, deinterleaved}
+use Rattle.mode.specs.Orders.{Copied, turned, blocked, lead, back, permuted, deinterleaved}
 use Rattle.mode.specs.Heard.{labelled, bits_of, symbols_of}
 use Rattle.mode.proofs.Moves.{copied_at}
 use Rattle.mode.proofs.Turns.{Enough, pairs, size, headed_low, headed_high, lead_is, cases_two, back_undoes, length-permuted, get_or-permuted}

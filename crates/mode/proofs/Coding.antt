@@ -1,11 +1,11 @@
 -- Writing the words of a part, copies of their bits, and the symbols of these, one after the other.
-use Rattle.std.proofs.Common.{◌≡◌, ℕ, zero, suc, ◌+◌, ◌-◌, ◌*◌, ◌<◌, ◌≤◌, min, List, [], ◌∷◌, ◌++◌, length, get_or, take, drop, set, replicate, sym, refl, ap, ◌∙◌, mul-le-mul_right, mul-le-mul_left, arith}
+use Rattle.std.proofs.Common.{◌≡◌, ℕ, suc, ◌+◌, ◌-◌, ◌*◌, ◌<◌, ◌≤◌, min, List, [], ◌∷◌, ◌++◌, length, get_or, take, drop, set, replicate, sym, refl, ap, ◌∙◌, mul-le-mul_right, mul-le-mul_left, arith}
 use borrow.Rule.Slice.PartMut.{put_mid}
 use Rattle.std.specs.List.{AllByRecursion as All}
-use Rattle.std.proofs.lemmas.List.{append-nil, append_assoc, drop_all, take_at, length-append, length-drop, drop-drop, take_all, length-take, take_more, take_more_set, length-set, length-replicate}
+use Rattle.std.proofs.lemmas.List.{append-nil, append_assoc, drop_all, take_at, length-append, length-drop, drop-drop, take_all, length-take, take_more, take_more_set, length-set}
 use Rattle.std.proofs.ByRecursion.{All-drop}
 use Rattle.std.proofs.lemmas.Slice.{take-put_mid}
-use Rattle.bits.specs.Strings.{Bit, Bits}
+use Rattle.bits.specs.Strings.{Bits}
 use Rattle.block_code.specs.Codes.{Code, word, shortened}
 use Rattle.mapping.specs.Maps.{Map}
 use Rattle.mapping.specs.Maps as maps

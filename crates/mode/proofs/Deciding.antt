@@ -1,8 +1,8 @@
 -- Deciding bits from their copies, counting those that are spoilt, and the lowest symbol, one element after the other.
-use Rattle.std.proofs.Common.{◌≡◌, ℕ, zero, suc, ◌+◌, ◌-◌, ◌*◌, ◌<◌, ◌≤◌, cond, eqb, ltb, leb, ◌⊎◌, List, [], ◌∷◌, ◌++◌, length, get_or, take, drop, set, sym, refl, ap, ◌∙◌, inl, inr, mul-le-mul_left, arith}
+use Rattle.std.proofs.Common.{◌≡◌, ℕ, suc, ◌+◌, ◌-◌, ◌*◌, ◌<◌, ◌≤◌, List, [], ◌∷◌, ◌++◌, length, get_or, take, drop, set, sym, ap, ◌∙◌, inl, inr, mul-le-mul_left, arith}
 use Rattle.std.specs.List.{AllByRecursion as All}
-use Rattle.std.proofs.lemmas.List.{at_drop_more, at_drop_all, drop-drop, length-take, length-drop, length-map, take-map, drop-map, append-nil, append_assoc, take_all, take_more_set, length-set}
-use Rattle.std.proofs.ByRecursion.{All-take, All-drop, All-get_or}
+use Rattle.std.proofs.lemmas.List.{at_drop_more, at_drop_all, drop-drop, length-take, length-map, take-map, drop-map, append-nil, append_assoc, take_all, take_more_set, length-set}
+use Rattle.std.proofs.ByRecursion.{All-get_or}
 use Rattle.std.proofs.lemmas.Bool.{eq-eqb, ne_eqb, le-leb, lt-leb, lt-ltb, le-ltb, cases_eq}
 use Rattle.bits.specs.Strings.{Bit}
 use Rattle.mode.specs.declared.air_bit.AirBit.{AirBit}

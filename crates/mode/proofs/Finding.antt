@@ -1,18 +1,16 @@
 -- A word is found exactly when some word has at most t spoilt bits; and the words of a part, one after the other.
-use Rattle.std.proofs.Common.{◌≡◌, ℕ, zero, suc, ◌+◌, ◌-◌, ◌*◌, ◌<◌, ◌≤◌, min, ◌⊎◌, List, [], ◌∷◌, ◌++◌, length, get_or, take, drop, Err, sym, refl, ap, ◌∙◌, inl, inr, mul-le-mul_left, arith}
-use borrow.Rule.Slice.PartMut.{put_mid}
+use Rattle.std.proofs.Common.{◌≡◌, ℕ, zero, suc, ◌+◌, ◌-◌, ◌*◌, ◌<◌, ◌≤◌, min, List, [], ◌∷◌, ◌++◌, length, get_or, take, drop, Err, sym, refl, ap, ◌∙◌, inl, inr, mul-le-mul_left, arith}
 use Rattle.std.specs.List.{AllByRecursion as All}
-use Rattle.std.proofs.lemmas.List.{length-take, length-take-le, length-drop, length-append, take_at, drop_at, append_assoc, append-nil, drop-drop, drop_all, take_all, take_more, take-append-drop, take-append-le, drop-append-le, nil_from_length}
-use Rattle.std.proofs.ByRecursion.{All-take, All-drop, All-append}
-use Rattle.std.proofs.lemmas.Slice.{take-put_mid}
+use Rattle.std.proofs.lemmas.List.{length-take-le, length-drop, length-append, append_assoc, drop-drop, drop_all, take_all, take_more, take-append-drop, take-append-le, drop-append-le, nil_from_length}
+use Rattle.std.proofs.ByRecursion.{All-append}
 use Rattle.std.proofs.lemmas.Bool.{cases_lt}
 use Rattle.bits.specs.Strings.{Bit, Bits}
 use Rattle.block_code.specs.Codes.{Code, word, distance, shortened}
 use Rattle.block_code.specs.Codes as codes
-use Rattle.block_code.specs.Answers.{Corrected, Far, Corrects}
+use Rattle.block_code.specs.Answers.{Corrected, Corrects}
 use Rattle.block_code.specs.declared.fault.CorrectFault.{CorrectFault}
 use Rattle.block_code.specs.declared.fault.CorrectFault.TheVariants.{Call, NoWordNear}
-use Rattle.block_code.specs.Near.{one_near, length-word}
+use Rattle.block_code.specs.Near.{one_near}
 use Rattle.block_code.specs.ShorteningLemmas.{shortened_lawful}
 use Rattle.mode.specs.Shares.{words, unsent, unsents}
 use Rattle.mode.specs.Copying.{decided, spoilt}
@@ -20,10 +18,10 @@ use Rattle.mode.specs.Parts.{First, Within, spoilt_all, Lost, sized}
 use Rattle.mode.specs.declared.air_bit.AirBit.{AirBit}
 use Rattle.mode.specs.Heard.{Lowest}
 use Rattle.mode.specs.Hearing.{NearWord, FarWord}
-use Rattle.mode.proofs.Strings.{take_bits, drop_bits, bits_at}
+use Rattle.mode.proofs.Strings.{bits_at}
 use Rattle.mode.proofs.Spoils.{decided_bits, decided_near, word_bits, spoilt-front, spoilt-le}
 use Rattle.mode.proofs.Splits.{carried, words_room, carried-unsents, length-unsents, get_or-unsents, unsent_below, unsents_more}
-use Rattle.mode.proofs.Readings.{within_found, sized_more}
+use Rattle.mode.proofs.Readings.{within_found}
 use Rattle.mode.proofs.Room.{front_is}
 
 module _ (c : Code) (L : codes.Lawful c) (s : ℕ) (es : List ℕ) (p : 0 < s) (bits : All Bit es) (n : ℕ) (size : n ≡ c.k + c.p) (room : length es ≡ s * n) (before : List ℕ) (be : before ≡ decided s n es) where

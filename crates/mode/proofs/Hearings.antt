@@ -1,21 +1,20 @@
 -- Hearing a part: there is always an answer, and never two; and what the answers say of reach.
-use Rattle.std.proofs.Common.{◌≡◌, ℕ, ◌+◌, ◌-◌, ◌*◌, ◌<◌, ◌≤◌, ◌⊎◌, List, length, get_or, Ok, Err, Result, sym, refl, ap, ◌∙◌, inl, inr, arith}
+use Rattle.std.proofs.Common.{◌≡◌, ℕ, ◌+◌, ◌-◌, ◌<◌, ◌≤◌, ◌⊎◌, List, length, get_or, Ok, Err, Result, sym, refl, ap, ◌∙◌, inl, inr, arith}
 use Rattle.std.proofs.lemmas.Bool.{cases_lt}
 use Rattle.std.proofs.ByRecursion.{All-get_or}
-use Rattle.bits.specs.declared.bad_call.BadCall.{BadCall}
 use Rattle.bits.specs.Strings.{Bits}
 use Rattle.mode.specs.declared.fault.PartFault.{PartFault}
 use Rattle.mode.specs.declared.fault.PartFault.TheVariants.{Symbol, Step, Word}
 use Rattle.mode.specs.declared.fault.HearFault.{HearFault}
 use Rattle.mode.specs.declared.fault.HearFault.TheVariants.{Part, Call}
 use Rattle.mode.specs.Shares.{words, unsents}
-use Rattle.mode.specs.Modes.{Mode, Lawful, Carried, stepped, total, count, sent, air}
-use Rattle.mode.specs.Parts.{First, There, part, Strange, Amiss, Read, Reach, Within, spoilt_all, copies_of, Lost, Holds}
+use Rattle.mode.specs.Modes.{Mode, Lawful, stepped, count, sent, air}
+use Rattle.mode.specs.Parts.{First, There, part, Amiss, Read, Reach, Within, copies_of, Lost, Holds}
 use Rattle.mode.specs.Answers.{Faulty, Hears}
 use Rattle.mode.specs.Laws.{RefusedExactly}
 use Rattle.mode.proofs.Strings.{bits_at, Either, decide_le}
 use Rattle.mode.proofs.Firsts.{first_one, first_or_none}
-use Rattle.mode.proofs.Splits.{carried, carried-unsents, unsents_below, length-unsents}
+use Rattle.mode.proofs.Splits.{carried-unsents, unsents_below, length-unsents}
 use Rattle.mode.proofs.Stepping.{stepped_below, length-stepped}
 use Rattle.mode.proofs.Whole.{within_one, roomy, count_width, copies_bits, copies_there, unsents_bits, air_bits, clean}
 use Rattle.mode.proofs.Readings.{within_found, found_within, decide_lost, part-get_or, decide_amiss, read_same, read_fine, fine_read, holds_first, decide_holds}

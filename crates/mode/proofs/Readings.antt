@@ -1,26 +1,24 @@
 -- What a part holds: its bits, its faults, its words, and where they stand in the list.
 use Rattle.std.proofs.Common.{◌≡◌, ℕ, zero, suc, ◌+◌, ◌-◌, ◌*◌, ◌/◌, ◌<◌, ◌≤◌, ◌⊎◌, List, [], ◌∷◌, ◌++◌, length, get_or, take, drop, sym, refl, ap, ◌∙◌, inl, inr, mul-le-mul_left, arith}
 use native.Mathlib.Nat.{mul-div_cancel_left}
-use Rattle.std.specs.List.{AllByRecursion as All}
 use Rattle.std.proofs.lemmas.Bool.{cases_eq, cases_lt}
 use Rattle.std.proofs.lemmas.List.{take_at, drop_at, length-take-le, length-drop, get_or-take, get_or-drop}
 use Rattle.std.proofs.ByRecursion.{All-get_or}
 use Rattle.std.proofs.lemmas.Nat.{div_below}
-use Rattle.bits.specs.Strings.{Bit, Bits}
+use Rattle.bits.specs.Strings.{Bits}
 use Rattle.block_code.specs.Codes.{Code, word, shortened}
-use Rattle.block_code.specs.Codes as codes
 use Rattle.mode.specs.Shares.{words, unsents}
-use Rattle.mode.specs.Orders.{forth, back}
+use Rattle.mode.specs.Orders.{back}
 use Rattle.mode.specs.Copying.{spoilt}
-use Rattle.mode.specs.Modes.{Mode, Lawful, Carried, stepped, total, count, sent, air}
-use Rattle.mode.specs.Parts.{First, There, part, Strange, Unread, Amiss, Read, Reach, Within, spoilt_all, copies_of, Lost, sized, start, bit_at, Holds}
+use Rattle.mode.specs.Modes.{Mode, Lawful, stepped, total, count}
+use Rattle.mode.specs.Parts.{There, part, Strange, Unread, Amiss, Read, Within, Lost, sized, start, bit_at, Holds}
 use Rattle.block_code.specs.Near.{searched}
 use Rattle.mode.proofs.Strings.{take_bits, drop_bits, bits_at, append_bits, Either, decide_le}
-use Rattle.mode.proofs.Firsts.{first_one, first_or_none}
+use Rattle.mode.proofs.Firsts.{first_or_none}
 use Rattle.mode.proofs.Turns.{back_undoes}
-use Rattle.mode.proofs.Splits.{carried, carried-unsents, unsents_below, length-unsents, unsents_more}
-use Rattle.mode.proofs.Stepping.{Leads, stepped_same, stepped_below, length-stepped, leads_read, decide_unread, read_leads}
-use Rattle.mode.proofs.Whole.{within_one, roomy, several, wide, count_width, total_enough, copies_bits, copies_there, unsents_bits, air_bits, clean}
+use Rattle.mode.proofs.Splits.{carried, unsents_below, length-unsents}
+use Rattle.mode.proofs.Stepping.{Leads, stepped_same, leads_read, decide_unread, read_leads}
+use Rattle.mode.proofs.Whole.{roomy, several, wide, count_width, total_enough, copies_there}
 
 -- words within reach are not lost
 pub within_found : (c : Code) (s : ℕ) (us xs es : List ℕ) → Bits (carried c.k us) xs → Within c s us xs es → (j : ℕ) → Lost c s us es j → ⊥

@@ -1,11 +1,10 @@
 -- How much room a part takes at most.
-use Rattle.std.proofs.Common.{◌≡◌, ℕ, ◌+◌, ◌-◌, ◌*◌, ◌/◌, ◌%◌, ◌<◌, ◌≤◌, ◌⊎◌, List, ◌++◌, length, take, drop, replicate, sym, refl, ap, ◌∙◌, inl, inr, mul-le-mul_right, arith}
+use Rattle.std.proofs.Common.{◌≡◌, ℕ, ◌+◌, ◌-◌, ◌*◌, ◌/◌, ◌%◌, ◌<◌, ◌≤◌, List, ◌++◌, length, take, drop, replicate, sym, refl, ap, ◌∙◌, inl, inr, mul-le-mul_right, arith}
 use native.Mathlib.Nat.{mul-div_cancel_left, sub-zero}
 use borrow.Rule.Slice.PartMut.{put_mid}
 use Rattle.std.proofs.lemmas.Nat.{mul-le, mod_below}
-use Rattle.std.proofs.lemmas.List.{take_at, length-append, length-take, length-drop}
+use Rattle.std.proofs.lemmas.List.{take_at, length-take, length-drop}
 use Rattle.std.proofs.lemmas.Bool.{cases_lt}
-use Rattle.bits.specs.Strings.{Bits}
 use Rattle.block_code.specs.Codes.{Code}
 use Rattle.block_code.specs.Codes as codes
 use Rattle.mapping.specs.Maps.{Map}
@@ -13,7 +12,7 @@ use Rattle.mapping.specs.Maps as maps
 use Rattle.mode.specs.declared.copies.Copies.{Copies}
 use Rattle.mode.specs.declared.copies.Copies.TheVariants.{One, Two, Four}
 use Rattle.mode.specs.Shares.{words, unsents}
-use Rattle.mode.specs.Orders.{Copied, Movable, interleaved}
+use Rattle.mode.specs.Orders.{Movable, interleaved}
 use Rattle.mode.specs.Copying.{spread}
 use Rattle.mode.specs.Modes.{Mode, Lawful, Carried, coded, plain, pad, total, count, padded, air}
 use Rattle.mode.specs.Chains.{chained}

@@ -1,9 +1,8 @@
 -- Where two words differ, the copies spoil one of them: so copies are within reach of one message only. A bit that is
 -- not spoilt is decided rightly.
-use Rattle.std.proofs.Common.{◌≡◌, ℕ, zero, suc, ◌+◌, ◌-◌, ◌*◌, ◌/◌, ◌<◌, ◌≤◌, Bool, true, false, cond, eqb, ltb, leb, ◌⊎◌, List, [], ◌∷◌, ◌++◌, length, get_or, take, drop, replicate, sym, refl, ap, ◌∙◌, inl, inr, arith}
-use native.Mathlib.Nat.{div-eq_of_lt, add-div_right}
+use Rattle.std.proofs.Common.{◌≡◌, ℕ, zero, suc, ◌+◌, ◌*◌, ◌<◌, ◌≤◌, cond, eqb, leb, List, [], ◌∷◌, ◌++◌, length, get_or, take, drop, replicate, sym, refl, ap, ◌∙◌, inl, inr, arith}
 use Rattle.std.specs.List.{AllByRecursion as All}
-use Rattle.std.proofs.lemmas.List.{length-take-le, length-drop, length-append, length-replicate, append_assoc, take_at, drop_at, take-append-le, drop-append-le, get_or_append_left, get_or-append_right, get_or-replicate}
+use Rattle.std.proofs.lemmas.List.{length-take-le, length-drop, length-append, length-replicate, append_assoc, take_at, drop_at, take-append-le, drop-append-le}
 use Rattle.std.proofs.ByRecursion.{All-take, All-drop, All-append, All-get_or}
 use Rattle.std.proofs.lemmas.Bool.{eq-eqb, ne_eqb, cases_eq, le-leb, lt-leb, lt-ltb, le-ltb, cases_lt}
 use Rattle.bits.specs.Strings.{Bit, Bits}

@@ -1,9 +1,9 @@
 -- The symbols that a mapping steps through tell the bits.
-use Rattle.std.proofs.Common.{◌≡◌, ℕ, zero, suc, ◌+◌, ◌-◌, ◌*◌, ◌<◌, ◌≤◌, ◌⊎◌, List, [], ◌∷◌, ◌++◌, length, get_or, take, drop, sym, refl, ap, ◌∙◌, inl, inr, arith}
+use Rattle.std.proofs.Common.{◌≡◌, ℕ, zero, suc, ◌+◌, ◌*◌, ◌<◌, ◌⊎◌, List, [], ◌∷◌, ◌++◌, length, get_or, take, drop, sym, refl, ap, ◌∙◌, inl, inr, arith}
 use Rattle.std.specs.List.{AllByRecursion as All}
 use Rattle.std.proofs.lemmas.List.{take-append-drop, nil_from_length, take_at, drop_at}
 use Rattle.std.proofs.lemmas.Bool.{cases_eq}
-use Rattle.bits.specs.Strings.{Bit, Bits}
+use Rattle.bits.specs.Strings.{Bits}
 use Rattle.mapping.specs.Maps.{Map, Lawful}
 use Rattle.mode.specs.Modes.{stepped}
 use Rattle.mode.specs.Parts.{Unread}

@@ -1,5 +1,5 @@
 -- The counts of a mode, and the words of a part: copies are within reach of one list of bits only, and clean copies are.
-use Rattle.std.proofs.Common.{◌≡◌, ℕ, zero, suc, ◌+◌, ◌-◌, ◌*◌, ◌/◌, ◌%◌, ◌<◌, ◌≤◌, ◌⊎◌, List, [], ◌∷◌, ◌++◌, length, get_or, take, drop, replicate, sym, refl, ap, ◌∙◌, inl, inr, mod-eq_of_lt, mul-le-mul_left, mul-div_cancel, arith}
+use Rattle.std.proofs.Common.{◌≡◌, ℕ, ◌+◌, ◌-◌, ◌*◌, ◌/◌, ◌%◌, ◌<◌, ◌≤◌, ◌⊎◌, List, [], ◌∷◌, ◌++◌, length, take, drop, replicate, sym, refl, ap, ◌∙◌, inl, inr, mod-eq_of_lt, mul-le-mul_left, mul-div_cancel, arith}
 use native.Mathlib.Nat.{mod_self, sub-zero}
 use Rattle.std.proofs.lemmas.Bool.{cases_eq}
 use Rattle.std.specs.List.{AllByRecursion as All}
@@ -9,7 +9,7 @@ use Rattle.std.proofs.lemmas.Nat.{div-add-mod', mod_below}
 use Rattle.bits.specs.Strings.{Bit, Bits}
 use Rattle.block_code.specs.Codes.{Code, word, shortened}
 use Rattle.block_code.specs.Codes as codes
-use Rattle.mode.specs.Shares.{words, unsents}
+use Rattle.mode.specs.Shares.{unsents}
 use Rattle.mode.specs.Orders.{permuted, forth, back, interleaved, deinterleaved}
 use Rattle.mode.specs.Copying.{spread, spoilt}
 use Rattle.mode.specs.Modes.{Mode, Lawful, coded, plain, pad, total, count, padded, air}

@@ -1,5 +1,5 @@
 -- Worked examples.
-use Rattle.std.specs.Prelude.{◌≡◌, ℕ, List, [], ◌∷◌, ◌++◌, replicate}
+use Rattle.std.specs.Prelude.{◌≡◌, ℕ, [], ◌∷◌, ◌++◌, replicate}
 use Rattle.mode.specs.Shares.{unsents}
 use Rattle.mode.specs.Orders.{interleaved}
 use Rattle.mode.specs.Modes.{Mode, pad, count}

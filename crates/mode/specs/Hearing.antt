@@ -1,7 +1,7 @@
 -- What hearing leaves of one word, and of all words of a part.
 use Rattle.std.specs.Prelude.{◌≡◌, ℕ, ◌+◌, ◌-◌, ◌*◌, ◌/◌, ◌<◌, ◌≤◌, List, length, take, drop, Some, None, Ok, Err, Option, Result}
 use Rattle.bits.specs.Strings.{Bits}
-use Rattle.block_code.specs.Codes.{Code, word, shortened}
+use Rattle.block_code.specs.Codes.{Code, word}
 use Rattle.mapping.specs.Maps.{Map}
 use Rattle.mode.specs.declared.fault.PartFault.{PartFault}
 use Rattle.mode.specs.declared.air_bit.AirBit.{AirBit}

@@ -1,10 +1,10 @@
 -- What holds of every lawful mode.
-use Rattle.std.specs.Prelude.{◌≡◌, ℕ, ◌+◌, ◌<◌, ◌≤◌, List, length, Ok, Err, Result, slice_index}
+use Rattle.std.specs.Prelude.{◌≡◌, ℕ, ◌<◌, List, length, Ok, Err, Result, slice_index}
 use Rattle.bits.specs.Strings.{Bits}
 use Rattle.mode.specs.declared.fault.PartFault.{PartFault}
 use Rattle.mode.specs.declared.fault.HearFault.{HearFault}
 use Rattle.mode.specs.declared.fault.HearFault.TheVariants.{Part}
-use Rattle.mode.specs.Modes.{Mode, Lawful, Carried, count, sent}
+use Rattle.mode.specs.Modes.{Mode, Lawful, sent}
 use Rattle.mode.specs.Parts.{There, part, Reach}
 use Rattle.mode.specs.Answers.{Hears}
 

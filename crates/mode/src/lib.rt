@@ -1,4 +1,6 @@
 // Modes: a block code, a count of copies and a mapping, which carry bits as symbols.
+#![tactic(auto)]
+
 mod air_bit;
 pub mod carrier;
 pub mod chain;

@@ -1,6 +1,6 @@
 -- The plan of every band is lawful.
-use Rattle.std.specs.Prelude.{◌≡◌, ℕ, zero, suc, ◌+◌, ◌<◌, ◌≤◌, List, [], ◌∷◌, ◌++◌, length, Some, None, Option, slice_index_or, refl}
-use Rattle.std.proofs.Common.{sym, subst, ◌∙◌, arith}
+use Rattle.std.specs.Prelude.{◌≡◌, ℕ, zero, suc, ◌<◌, List, [], ◌∷◌, Some, None, Option, slice_index_or, refl}
+use Rattle.std.proofs.Common.{subst, ◌∙◌, arith}
 use Rattle.std.specs.List.{AllByRecursion as All}
 use Rattle.std.proofs.ByRecursion.{All-append}
 use Rattle.std.proofs.lemmas.List.{length-append}
@@ -24,7 +24,7 @@ use Rattle.mode.specs.Modes.{Mode}
 use Rattle.mode.specs.Modes as modes
 use Rattle.mode.specs.Chains.{chained}
 use Rattle.mode.proofs.Room.{chain_lawful}
-use Rattle.delivery.specs.Plans.{Plan, Lawful}
+use Rattle.delivery.specs.Plans.{Lawful}
 use Rattle.plan.specs.declared.band.Band.{Band}
 use Rattle.plan.specs.declared.band.Band.TheVariants.{Mhz402, Mhz420, Mhz863, Mhz902, Mhz950, Mhz2360, Mhz2400}
 use Rattle.plan.specs.Bands.{first, second, extension, preamble, planned, lower_rates, lower_plan, gmsk_rates, gmsk_plan, upper_rates, upper_plan, plan_of}

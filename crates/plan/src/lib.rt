@@ -1,4 +1,6 @@
 // Plans: which modes a radio uses for what.
+#![tactic(auto)]
+
 pub mod band;
 pub mod band_mode;
 pub mod bands;

@@ -1,8 +1,8 @@
 -- A frame in its places: what the three parts leave, and the symbols between them.
-use Rattle.std.proofs.Common.{◌≡◌, ℕ, zero, suc, ◌+◌, ◌-◌, ◌*◌, ◌<◌, ◌≤◌, List, [], ◌∷◌, ◌++◌, length, get_or, take, drop, sym, refl, ap, ◌∙◌, subst, ap₂, arith, length-append, length-drop, length-take}
+use Rattle.std.proofs.Common.{◌≡◌, ℕ, zero, suc, ◌-◌, ◌*◌, ◌<◌, ◌≤◌, List, [], ◌∷◌, ◌++◌, length, get_or, take, drop, sym, refl, ap, ◌∙◌, subst, ap₂, arith, length-append, length-drop}
 use borrow.Rule.Slice.PartMut.{put_mid}
 use Rattle.std.specs.List.{AllByRecursion as All}
-use Rattle.std.proofs.lemmas.List.{take_at, drop_at, drop-drop, drop_all, append-nil, append_assoc, length-take-le}
+use Rattle.std.proofs.lemmas.List.{take_at, drop_at, drop_all, append-nil, append_assoc, length-take-le}
 use Rattle.bits.specs.Strings.{Bits}
 use Rattle.frame.specs.Headers.{Fields, Form, InRange, header}
 use Rattle.frame.specs.Headers as forms

@@ -1,16 +1,13 @@
 -- What a post makes of a request that it accepts.
-use Rattle.std.proofs.Common.{◌≡◌, ℕ, ◌+◌, ◌-◌, ◌*◌, ◌%◌, ◌<◌, ◌≤◌, true, false, cond, eqb, List, [], ◌∷◌, ◌++◌, length, drop, Some, None, Option, sym, refl, ap, ◌∙◌, subst, ap₂, arith}
-use Rattle.std.specs.List.{AllByRecursion as All}
+use Rattle.std.proofs.Common.{◌≡◌, ℕ, ◌+◌, ◌-◌, ◌*◌, ◌%◌, ◌<◌, true, false, cond, eqb, List, ◌++◌, length, drop, Some, sym, refl, ap, ◌∙◌, subst, ap₂, arith}
 use Rattle.bits.specs.Strings.{Bits}
-use Rattle.frame.specs.Numbers.{Byte}
 use Rattle.frame.specs.Headers.{Fields, Form, header}
 use Rattle.frame.specs.Headers as forms
-use Rattle.frame.specs.Scrambler.{scrambled}
-use Rattle.mode.specs.Modes.{Mode, Carried, stepped, sent, count}
+use Rattle.mode.specs.Modes.{Mode, Carried, count}
 use Rattle.delivery.specs.Plans.{Plan, Lawful}
 use Rattle.delivery.specs.Frames.{Frame, fields, Legal, last_of, header_count, preamble, header_sent, payload_by, payload_sent, body, symbols}
 use Rattle.delivery.proofs.Cleans.{length_symbols}
-use Rattle.post.specs.Parts.{Writable, front, written}
+use Rattle.post.specs.Parts.{Writable, written}
 
 -- the bits of a plan's preamble on a channel
 abbrev pub preamble_bits : Plan → ℕ → List ℕ

@@ -1,4 +1,6 @@
 // Posts: open, retune, send and hear.
+#![tactic(auto)]
+
 mod calls;
 mod hearing;
 pub mod post;

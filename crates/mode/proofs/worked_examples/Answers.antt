@@ -1,4 +1,4 @@
-use Rattle.std.proofs.Common.{◌≡◌, ℕ, List, [], ◌∷◌, ◌++◌, replicate, refl}
+use Rattle.std.proofs.Common.{◌≡◌, ℕ, [], ◌∷◌, ◌++◌, replicate, refl}
 use Rattle.mode.specs.Shares.{words, spare, unsent, unsents}
 use Rattle.mode.specs.Orders.{turned, blocked, headed, lead, forth, interleaved}
 use Rattle.mode.specs.Modes.{Mode, plain, pad, total, count}

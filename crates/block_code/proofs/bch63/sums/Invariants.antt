@@ -1,4 +1,4 @@
-use Rattle.std.proofs.Common.{◌≡◌, ℕ, ◌<◌, drop}
+use Rattle.std.proofs.Common.{◌≡◌, drop}
 use lib.Bits.{bit_xor}
 use Rattle.block_code.specs.Bch.{first, third}
 use Rattle.block_code.proofs.bch63.sums.Given as goal

@@ -1,9 +1,7 @@
-use Rattle.std.proofs.Common.{◌≡◌, ℕ, ◌*◌, ◌<◌, ◌≤◌, length, take, sym, ap, ◌∙◌, arith}
+use Rattle.std.proofs.Common.{◌≡◌, ◌*◌, ◌<◌, length, take, sym, ap, ◌∙◌, arith}
 use lib.Bits.{bit_xor, xor_lt}
-use Rattle.std.specs.List.{AllByRecursion as All}
 use Rattle.std.proofs.ByRecursion.{All-push}
 use Rattle.std.proofs.lemmas.List.{take_all, take_more_set}
-use Rattle.bits.specs.Strings.{Bit}
 use Rattle.frame.specs.Numbers.{Byte}
 use Rattle.frame.specs.Scrambler.{scrambled}
 use Rattle.frame.proofs.Scrambling.{holds_next, part_bits, unscramble_more}

@@ -1,4 +1,3 @@
-use Rattle.std.proofs.Common.{length}
 use Rattle.mapping.specs.Numbers.{Written}
 use Rattle.mapping.proofs.phase.write_bits.Given as goal
 

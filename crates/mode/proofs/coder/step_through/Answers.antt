@@ -1,4 +1,4 @@
-use Rattle.std.proofs.Common.{◌≡◌, ◌*◌, length, sym, ap, arith}
+use Rattle.std.proofs.Common.{◌*◌, length, sym, ap, arith}
 use Rattle.bits.specs.Strings.{Bits}
 use Rattle.mode.proofs.Coding.{bits_there, going_none, going_bits, going_more, going_all}
 use Rattle.mode.proofs.Strings.{bits_at}

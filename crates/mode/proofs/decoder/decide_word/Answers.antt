@@ -1,4 +1,4 @@
-use Rattle.std.proofs.Common.{◌≡◌, ◌+◌, ◌-◌, ◌≤◌, length, take, drop, ap, ◌∙◌, arith}
+use Rattle.std.proofs.Common.{◌+◌, ◌≤◌, length, drop, ap, ◌∙◌, arith}
 use Rattle.std.proofs.ByRecursion.{All-take, All-drop}
 use Rattle.bits.specs.Strings.{Bit}
 use Rattle.mode.specs.Copying.{majority}

@@ -1,8 +1,8 @@
-use Rattle.std.proofs.Common.{◌≡◌, ◌/◌, length, sym, refl, ap, ◌∙◌, arith}
+use Rattle.std.proofs.Common.{◌≡◌, ◌/◌, length, sym, ap, ◌∙◌, arith}
 use Rattle.std.proofs.lemmas.List.{length-append}
 use Rattle.mode.specs.Orders.{deinterleaved}
 use Rattle.mode.specs.Heard.{labelled}
-use Rattle.mode.proofs.Room.{front_is, front_length}
+use Rattle.mode.proofs.Room.{front_is}
 use Rattle.mode.proofs.decoder.hear_copies.Given.{Over}
 use Rattle.mode.proofs.decoder.hear_copies.Goals as goal
 use Rattle.mode.proofs.decoder.hear_copies.Goals.{In_ok-read_part}

@@ -2,7 +2,6 @@ use Rattle.std.proofs.Common.{◌≡◌, ◌-◌, min, length, sym, ap, ◌∙�
 use Rattle.std.proofs.lemmas.List.{length-append}
 use Rattle.block_code.specs.Codes.{shortened}
 use Rattle.mode.specs.Heard.{bits_of}
-use Rattle.mode.specs.Hearing.{NearWord, FarWord}
 use Rattle.mode.proofs.Finding.{short_is, message_there, message_near}
 use Rattle.mode.proofs.decoder.hear_message.Given.{Over}
 use Rattle.mode.proofs.decoder.hear_message.Goals as goal

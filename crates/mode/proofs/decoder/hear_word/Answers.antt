@@ -1,4 +1,4 @@
-use Rattle.std.proofs.Common.{◌≡◌, length, sym, ap, ◌∙◌, arith}
+use Rattle.std.proofs.Common.{length, ◌∙◌, arith}
 use Rattle.mode.specs.Heard.{bits_of}
 use Rattle.mode.proofs.Deciding.{length_bits}
 use Rattle.mode.proofs.Finding.{refused_word, spoilt-word, found_word}

@@ -1,4 +1,4 @@
-use Rattle.std.proofs.Common.{◌≡◌, ◌+◌, ◌*◌, ◌/◌, length, take}
+use Rattle.std.proofs.Common.{◌≡◌, ◌+◌, ◌*◌, take}
 use Rattle.mode.specs.Orders.{deinterleaved}
 use Rattle.mode.specs.Heard.{labelled}
 use Rattle.mode.proofs.decoder.take_copies.Given as goal

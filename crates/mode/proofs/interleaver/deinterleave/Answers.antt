@@ -1,4 +1,4 @@
-use Rattle.std.proofs.Common.{◌≡◌, ◌/◌, ◌<◌, length, refl, arith, rules}
+use Rattle.std.proofs.Common.{◌/◌, ◌<◌, length, refl, arith, rules}
 use Rattle.mode.specs.Orders.{forth, back, deinterleaved}
 use Rattle.mode.proofs.Turns.{undoing}
 use Rattle.mode.proofs.Moves.{scatter_more, scatter_all, copied_places, copied_back}

@@ -1,6 +1,5 @@
-use Rattle.std.proofs.Common.{◌≡◌, ◌/◌, ◌<◌, length, refl, arith}
+use Rattle.std.proofs.Common.{◌/◌, ◌<◌, length, refl, arith}
 use Rattle.mode.specs.Orders.{forth, back, interleaved}
-use Rattle.mode.proofs.Turns.{Undoes}
 use Rattle.mode.proofs.Moves.{gather_more, gather_all, copied_places}
 use Rattle.mode.proofs.interleaver.interleave.Given.{Over}
 use Rattle.mode.proofs.interleaver.interleave.Goals as goal

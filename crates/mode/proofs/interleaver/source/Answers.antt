@@ -1,4 +1,4 @@
-use Rattle.std.proofs.Common.{◌≡◌, ◌*◌, ◌%◌, ap, ◌∙◌, arith}
+use Rattle.std.proofs.Common.{◌*◌, ◌∙◌, arith}
 use Rattle.std.proofs.lemmas.Nat.{mod_below}
 use Rattle.mode.proofs.Moves.{lead_below, pair_below, in_lead, at_low, at_high, high_below}
 use Rattle.mode.proofs.interleaver.source.Goals as goal

@@ -1,4 +1,4 @@
-use Rattle.std.proofs.Common.{◌≡◌, ◌-◌, ◌*◌, ◌<◌, ◌≤◌, ap, arith}
+use Rattle.std.proofs.Common.{◌≡◌, ◌-◌, ◌<◌, ap, arith}
 use Rattle.mode.specs.Shares.{words, unsent}
 use Rattle.mode.proofs.Splits.{all_shared, words_room, unsent_below, unsent_is}
 use Rattle.mode.proofs.sharing.share.Goals as goal

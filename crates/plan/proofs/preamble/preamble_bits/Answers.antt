@@ -1,4 +1,4 @@
-use Rattle.std.proofs.Common.{◌≡◌, ◌%◌, cond, eqb, replicate, sym, refl, ap, ◌∙◌}
+use Rattle.std.proofs.Common.{◌%◌, eqb, replicate, sym, refl, ap, ◌∙◌}
 use Rattle.std.proofs.lemmas.Bool.{eq-eqb, ne_eqb, cond-true, cond-false}
 use Rattle.plan.specs.Bands.{first, second, preamble}
 use Rattle.plan.proofs.Preambles.{both}

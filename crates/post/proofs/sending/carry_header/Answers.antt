@@ -1,5 +1,3 @@
-use Rattle.std.proofs.Common.{◌≡◌, ℕ, ◌<◌, List, length, sym, ap, ◌∙◌, subst, arith}
-use Rattle.frame.specs.Headers.{header}
 use Rattle.frame.specs.Answers.{fields_of}
 use Rattle.post.proofs.Calling.{header-written, header_sent}
 use Rattle.post.proofs.sending.carry_header.Goals as goal

@@ -1,4 +1,4 @@
-use Rattle.std.proofs.Common.{◌≡◌, ℕ, ◌*◌, length, sym, ap, ◌∙◌, arith}
+use Rattle.std.proofs.Common.{◌≡◌, ◌*◌, length, sym, ap, ◌∙◌, arith}
 use Rattle.bits.specs.Strings.{Bits}
 use Rattle.mode.proofs.Coding.{going_none, going_bits, going_more, going_all}
 use Rattle.post.proofs.sending.write_preamble.Given.{Over}

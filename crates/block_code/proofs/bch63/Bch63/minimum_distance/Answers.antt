@@ -1,4 +1,4 @@
-use Rattle.std.proofs.Common.{◌≡◌, ℕ, ◌+◌, ◌*◌, sym, subst, arith}
+use Rattle.std.proofs.Common.{◌≡◌, ◌+◌, ◌*◌, subst, arith}
 use Rattle.block_code.specs.Codes.{MinimumDistance}
 use Rattle.block_code.specs.Bch.{bch63}
 use Rattle.block_code.specs.Distance.{minimum}

@@ -1,4 +1,4 @@
-use Rattle.std.proofs.Common.{◌≡◌, ap, ◌∙◌, arith}
+use Rattle.std.proofs.Common.{ap, ◌∙◌, arith}
 use Rattle.block_code.specs.Bch.{parity, bits_of}
 use Rattle.block_code.proofs.bch63.Bch63BlockCode.encode.Goals as goal
 

@@ -1,8 +1,4 @@
-use Rattle.std.proofs.Common.{◌≡◌, ℕ, ◌+◌, ◌-◌, List, ◌++◌, length, take, replicate, ap, ◌∙◌, subst, arith, length-append}
-use lib.ListN.{length-replicate}
-use Rattle.std.proofs.lemmas.List.{take_at}
-use Rattle.bits.specs.Strings.{Bits}
-use Rattle.block_code.specs.Answers.{Encodes}
+use Rattle.std.proofs.Common.{arith}
 use Rattle.block_code.specs.Shortening.{unsent_in}
 use Rattle.block_code.specs.ShorteningLemmas.{encoding}
 use Rattle.block_code.proofs.shortened.ShortenedBlockCode.encode.Goals as goal

@@ -1,4 +1,3 @@
-use Rattle.std.proofs.Common.{◌≡◌, length, arith}
 use Rattle.frame.specs.Headers.{InRange}
 use Rattle.frame.specs.Narrowband.{narrowband}
 use Rattle.frame.specs.Answers.{fields_of}

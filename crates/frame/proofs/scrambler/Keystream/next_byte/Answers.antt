@@ -1,5 +1,4 @@
-use Rattle.std.proofs.Common.{◌≡◌, ℕ, ◌+◌, sym, ap, subst, add-zero, add_assoc, arith}
-use Rattle.frame.specs.Registers.{mask, Holds}
+use Rattle.std.proofs.Common.{◌≡◌, ◌+◌, add-zero, add_assoc, arith}
 use Rattle.frame.proofs.Sequence.{mask_none, mask_step}
 use Rattle.frame.proofs.scrambler.Keystream.next_byte.Goals as goal
 

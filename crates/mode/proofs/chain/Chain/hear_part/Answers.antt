@@ -1,4 +1,4 @@
-use Rattle.std.proofs.Common.{◌≡◌, ◌+◌, ◌*◌, length, Ok, Err, sym, refl, ap, ◌∙◌, subst, arith}
+use Rattle.std.proofs.Common.{◌≡◌, ◌+◌, ◌*◌, length, Ok, Err, sym, refl, ◌∙◌, subst, arith}
 use Rattle.mode.specs.declared.fault.PartFault.TheVariants.{Word}
 use Rattle.mode.specs.Orders.{deinterleaved}
 use Rattle.mode.specs.Heard.{labelled}

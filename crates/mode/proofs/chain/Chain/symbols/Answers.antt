@@ -1,5 +1,4 @@
-use Rattle.std.proofs.Common.{◌≡◌, arith}
-use Rattle.mode.specs.Modes.{Mode}
+use Rattle.std.proofs.Common.{arith}
 use Rattle.mode.specs.Chains.{chained}
 use Rattle.mode.proofs.Room.{chain_lawful, air_few, count_is}
 use Rattle.mode.proofs.chain.Chain.symbols.Goals as goal

@@ -1,4 +1,4 @@
-use Rattle.std.proofs.Common.{◌≡◌, ◌+◌, ◌*◌, ◌≤◌, arith}
+use Rattle.std.proofs.Common.{◌+◌, ◌*◌, ◌≤◌, arith}
 use Rattle.mode.specs.Modes.{Mode}
 use Rattle.mode.specs.Chains.{chained}
 use Rattle.mode.proofs.Room.{chain_lawful, plain_few, plain_is}

@@ -1,6 +1,5 @@
-use Rattle.std.proofs.Common.{◌≡◌, ◌-◌, ◌≤◌, length, drop, sym, refl, ap, ◌∙◌, arith}
+use Rattle.std.proofs.Common.{◌≡◌, ◌-◌, ◌≤◌, length, drop, refl, ◌∙◌, arith}
 use Rattle.std.proofs.lemmas.List.{length-append, length-take, length-drop}
-use Rattle.mode.specs.Modes.{Mode, plain, total}
 use Rattle.mode.specs.Chains.{chained}
 use Rattle.mode.proofs.Room.{padded_is, plain_adds}
 use Rattle.mode.proofs.Whole.{plain-total}

@@ -1,6 +1,5 @@
-use Rattle.std.proofs.Common.{◌≡◌, ◌*◌, ◌≤◌, length, refl, ap, ◌∙◌, arith}
+use Rattle.std.proofs.Common.{◌*◌, ◌≤◌, length, refl, ap, ◌∙◌, arith}
 use Rattle.std.proofs.lemmas.List.{length-append}
-use Rattle.mode.specs.Modes.{Lawful}
 use Rattle.mode.specs.Parts.{There}
 use Rattle.mode.specs.Chains.{chained}
 use Rattle.mode.proofs.Room.{chain_lawful, air_few}

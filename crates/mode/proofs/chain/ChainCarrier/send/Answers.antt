@@ -1,8 +1,6 @@
-use Rattle.std.proofs.Common.{◌≡◌, ◌*◌, ◌≤◌, length, take, drop, sym, refl, ap, ◌∙◌, arith}
-use Rattle.std.specs.List.{AllByRecursion as All}
+use Rattle.std.proofs.Common.{◌≡◌, ◌*◌, ◌≤◌, length, arith}
 use Rattle.std.proofs.lemmas.List.{length-append}
-use Rattle.bits.specs.Strings.{Bit}
-use Rattle.mode.specs.Modes.{Lawful, Carried}
+use Rattle.mode.specs.Modes.{Lawful}
 use Rattle.mode.specs.Chains.{chained}
 use Rattle.mode.proofs.Room.{chain_lawful, air_few}
 use Rattle.mode.proofs.Sending.{air-sized, symbols_asked, sent_front}

@@ -1,4 +1,4 @@
-use Rattle.std.proofs.Common.{◌≡◌, ℕ, ◌+◌, ◌-◌, ◌*◌, ◌<◌, ◌≤◌, List, length, Some, sym, refl, ap, ◌∙◌, subst, arith}
+use Rattle.std.proofs.Common.{◌≡◌, Some, sym, refl, ap, ◌∙◌, arith}
 use Rattle.std.proofs.lemmas.Result.{err_from_is_err_and}
 use Rattle.post.proofs.Listening.{head_is, header_faulty, ranges, seed_bit, carries, spoilt-header, length_faulty, payload_there, payload_faulty, spoilt_payload, delivered}
 use Rattle.post.proofs.post.Post.hear.Given.{Over}

@@ -1,4 +1,4 @@
-use Rattle.std.proofs.Common.{◌≡◌, Bool, [], ◌∷◌, is_some, Some, None, Option, sym, refl, ap, ◌∙◌}
+use Rattle.std.proofs.Common.{◌≡◌, Bool, is_some, Some, None, Option, sym, refl, ap, ◌∙◌}
 use Rattle.mode.specs.Modes.{Mode}
 use Rattle.plan.specs.Modes.{mode_of}
 use Rattle.post.proofs.post.Post.legal_rates.Goals as goal
