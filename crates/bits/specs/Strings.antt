@@ -1,6 +1,6 @@
 -- Bit strings: lists of the numbers 0 and 1, the first bit first.
 use Rattle.std.specs.Prelude.{◌≡◌, ℕ, ◌<◌, List, length}
-use Rattle.std.specs.List.{AllByRecursion as All}
+use Rattle.std.specs.List.{AllByRecursion}
 
 -- a bit is the number 0 or 1
 abbrev pub Bit : ℕ → Type 0
@@ -9,4 +9,4 @@ Bit b = b < 2
 -- a string of n bits
 pub record Bits (n : ℕ) (xs : List ℕ) : Type 0 where
   pub size : length xs ≡ n
-  pub bits : All Bit xs
+  pub bits : AllByRecursion Bit xs

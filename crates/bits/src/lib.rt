@@ -4,7 +4,7 @@
 pub mod bad_call;
 
 ghost use Rattle.std.specs.Prelude.{◌≡◌, Decides};
-ghost use Rattle.std.specs.List.{AllByRecursion as All};
+ghost use Rattle.std.specs.List.{AllByRecursion};
 ghost use Rattle.bits.specs.Strings.{Bit, Bits};
 ghost use Rattle.bits.specs.Refusals.{number, layer, place};
 
@@ -32,7 +32,7 @@ impl BadCall {
 
 // Whether every number of the slice is a bit.
 pub fn are_bits(xs: &[u8]) -> bool
-    ensures { Decides result (All Bit xs.now) }
+    ensures { Decides result (AllByRecursion Bit xs.now) }
 {
     for x in xs {
         if *x > 1 {

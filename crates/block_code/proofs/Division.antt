@@ -1,7 +1,7 @@
 -- The remainder holds the remainder of D^12 times the message.
 use Rattle.std.proofs.Common.{◌≡◌, ℕ, zero, suc, ◌+◌, ◌*◌, ◌/◌, ◌%◌, ◌^◌, ◌<◌, List, [], ◌∷◌, length, sym, refl, ap, ◌∙◌, ap₂, mul_assoc, mul_comm, pow-suc, zero-mul, arith, pow_pos}
 use lib.Bits.{bit_xor, xor_assoc, xor_comm, xor_zero_r, xor_block, xor_shifted, xor_lt}
-use Rattle.std.specs.List.{AllByRecursion as All}
+use Rattle.std.specs.List.{AllByRecursion}
 use Rattle.bits.specs.Strings.{Bit}
 use Rattle.block_code.specs.Bch.{pick, remainder, divided, product, parity, Divides}
 use Rattle.block_code.specs.Linear.{pick-xor, pick-map, xor_left}
@@ -48,12 +48,12 @@ divide r b h k =
 
 record Result (r : ℕ) (m : List ℕ) : Type 0 where
   q : List ℕ
-  bits : All Bit q
+  bits : AllByRecursion Bit q
   size : length q ≡ length m
   whole : bit_xor (r * 2 ^ length m) (product 4096 m) ≡ bit_xor (product 5433 q) (remainder r m)
   small : remainder r m < 4096
 
-divides : (r : ℕ) (m : List ℕ) → r < 4096 → All Bit m → Result r m
+divides : (r : ℕ) (m : List ℕ) → r < 4096 → AllByRecursion Bit m → Result r m
 divides r [] h b = record { q = []; bits = tt; size = refl; whole = xor_zero_r (r * 1) ∙ omega arith; small = h }
 divides r (b ∷ m) h k =
     let R : Result (divided r b) m = divides (divided r b) m (divided-lt r b) k.1 in

@@ -4,7 +4,7 @@ use lib.Bits.{bit_xor, xor_assoc, xor_zero_r, xor_self, xor_lt, xor_block}
 use Rattle.std.proofs.ByRecursion.{All-append, All-take, All-drop}
 use Rattle.std.proofs.lemmas.Bool.{cases_lt}
 use Rattle.std.proofs.lemmas.List.{get_or-set_other}
-use Rattle.std.specs.List.{AllByRecursion as All}
+use Rattle.std.specs.List.{AllByRecursion}
 use Rattle.bits.specs.Strings.{Bit, Bits}
 use Rattle.block_code.specs.Codes.{distance}
 use Rattle.block_code.specs.Answers.{Corrected, Far}
@@ -55,12 +55,12 @@ both_sums (suc b ∷ w) =
 abbrev pub flip : List ℕ → ℕ → List ℕ
 flip w j = set w j (bit_xor (get_or w j 0) 1)
 
-pub bits_flip : (w : List ℕ) (j : ℕ) → All Bit w → All Bit (flip w j)
+pub bits_flip : (w : List ℕ) (j : ℕ) → AllByRecursion Bit w → AllByRecursion Bit (flip w j)
 bits_flip [] j h = tt
 bits_flip (b ∷ w) zero h = (xor_lt 1 b 1 h.0 (omega arith), h.1)
 bits_flip (b ∷ w) (suc j) h = (h.0, bits_flip w j h.1)
 
-pub flip-sum : (f : ℕ → ℕ) (w : List ℕ) (j k : ℕ) → suc (j + k) ≡ length w → All Bit w → sum_at f (flip w j) ≡ bit_xor (f k) (sum_at f w)
+pub flip-sum : (f : ℕ → ℕ) (w : List ℕ) (j k : ℕ) → suc (j + k) ≡ length w → AllByRecursion Bit w → sum_at f (flip w j) ≡ bit_xor (f k) (sum_at f w)
 flip-sum f [] j k l h = absurd (omega arith)
 flip-sum f (b ∷ w) zero k l h =
     let e : length w ≡ k = omega arith in
@@ -72,7 +72,7 @@ flip-sum f (b ∷ w) (suc j) k l h =
     ap₂ (λ n x. bit_xor (pick b (f n)) x) (length-set w j (bit_xor (get_or w j 0) 1)) (flip-sum f w j k (omega arith) h.1)
     ∙ xor_left (pick b (f (length w))) (f k) (sum_at f w)
 
-pub distance-flip : (v w : List ℕ) (j : ℕ) → length v ≡ length w → j < length v → All Bit v → get_or v j 0 ≡ get_or w j 0 → distance (flip v j) w ≡ suc (distance v w)
+pub distance-flip : (v w : List ℕ) (j : ℕ) → length v ≡ length w → j < length v → AllByRecursion Bit v → get_or v j 0 ≡ get_or w j 0 → distance (flip v j) w ≡ suc (distance v w)
 distance-flip [] w j l h b e = absurd (omega arith)
 distance-flip (x ∷ v) [] j l h b e = absurd (omega arith)
 distance-flip (zero ∷ v) (y ∷ w) zero l h b e = rw (← e) (omega arith)
@@ -82,7 +82,7 @@ distance-flip (x ∷ v) (y ∷ w) (suc j) l h b e = omega (arith, distance-flip 
 
 -- ---- what is found is a word
 
-pub corrected : (before after : List ℕ) (n : ℕ) → length after ≡ 63 → All Bit after → sum_at both after ≡ 0 → distance after before ≡ n → n ≤ 2
+pub corrected : (before after : List ℕ) (n : ℕ) → length after ≡ 63 → AllByRecursion Bit after → sum_at both after ≡ 0 → distance after before ≡ n → n ≤ 2
     → Corrected bch63 before after n
 corrected before after n l h z d t =
     record {
@@ -105,7 +105,7 @@ corrected before after n l h z d t =
 
 -- ---- and where nothing is found, no word is near
 
-module _ (v : List ℕ) (l : length v ≡ 63) (h : All Bit v)
+module _ (v : List ℕ) (l : length v ≡ 63) (h : AllByRecursion Bit v)
     (none : first v ≡ 0 → third v ≡ 0 → ⊥)
     (ones : (k : ℕ) → k < 63 → Fits1 (first v) (third v) k → ⊥)
     (twos : (k m : ℕ) → k < 63 → m < k → Fits2 (first v) (third v) k m → ⊥) where
@@ -129,7 +129,7 @@ module _ (v : List ℕ) (l : length v ≡ 63) (h : All Bit v)
         | inr le ↦
             let w : List ℕ = m ++ parity m in
             let k : length w ≡ length v = omega (arith, length-append m (parity m), length-parity m, M.size) in
-            let b : All Bit w = All-append Bit m (parity m) M.bits (bits_parity m) in
+            let b : AllByRecursion Bit w = All-append Bit m (parity m) M.bits (bits_parity m) in
             let n : length (added w v) ≡ 63 = length-added w v k ∙ k ∙ l in
             let f : Falls 63 (places (added w v)) = rw n at (places_fall (added w v)) in
             absurd (miss (places (added w v)) f
@@ -143,7 +143,7 @@ module _ (v : List ℕ) (V : Bits 63 v) (s t : ℕ) (es : s ≡ first v) (et : t
   l : length v ≡ 63
   l = V.size
 
-  h : All Bit v
+  h : AllByRecursion Bit v
   h = V.bits
 
   sums : sum_at both v ≡ t * 64 + s
@@ -176,7 +176,7 @@ module _ (v : List ℕ) (V : Bits 63 v) (s t : ℕ) (es : s ≡ first v) (et : t
       k : length u ≡ 63
       k = length-set v (62 - i) (bit_xor (get_or v (62 - i) 0) 1) ∙ l
 
-      b : All Bit u
+      b : AllByRecursion Bit u
       b = bits_flip v (62 - i) h
 
       apart : 62 - j ≢ 62 - i

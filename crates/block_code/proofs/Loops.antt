@@ -2,7 +2,7 @@
 use Rattle.std.proofs.Common.{◌≡◌, ℕ, zero, suc, ◌+◌, ◌-◌, ◌*◌, ◌/◌, ◌%◌, ◌^◌, ◌<◌, Bool, true, false, ◌&&◌, T, eqb, List, [], ◌∷◌, length, get_or, drop, sym, ap, ◌∙◌, ap₂, arith, eqb→eq, length-drop}
 use lib.Bits.{bit_xor, xor_assoc, xor_zero_r, xor_lt, bit_and, and_mask}
 use Rattle.std.proofs.lemmas.List.{at_drop_more}
-use Rattle.std.specs.List.{AllByRecursion as All}
+use Rattle.std.specs.List.{AllByRecursion}
 use Rattle.bits.specs.Strings.{Bit}
 use Rattle.block_code.specs.Bch.{pick, sum_at, power, times, divided, remainder, bits_of}
 
@@ -27,7 +27,7 @@ from (x ∷ xs) i t (suc k) h = from xs (suc i) (and_r (eqb x (power i)) (agrees
 pub table_at : (xs : List ℕ) → T (agrees 0 xs) → (k : ℕ) → k < length xs → get_or xs k 0 ≡ power k
 table_at xs t k h = from xs 0 t k h ∙ ap power (omega arith)
 
-pub bit_at : (xs : List ℕ) → All Bit xs → (j : ℕ) → get_or xs j 0 < 2
+pub bit_at : (xs : List ℕ) → AllByRecursion Bit xs → (j : ℕ) → get_or xs j 0 < 2
 bit_at [] h j = omega arith
 bit_at (x ∷ xs) h zero = h.0
 bit_at (x ∷ xs) h (suc j) = bit_at xs h.1 j

@@ -5,7 +5,7 @@ use Rattle.std.specs.Int.Bits.{xor_zero_r, xor_assoc, xor_self}
 use Rattle.std.proofs.ByRecursion.{All-append, All-set}
 use Rattle.std.proofs.lemmas.Bool.{cases_lt}
 use Rattle.std.proofs.lemmas.List.{take_at}
-use Rattle.std.specs.List.{AllByRecursion as All}
+use Rattle.std.specs.List.{AllByRecursion}
 use Rattle.bits.specs.Strings.{Bit, Bits}
 use Rattle.block_code.specs.Codes.{distance, word, Apart, MinimumDistance}
 use Rattle.block_code.specs.Bch.{sum_at, parity, bch63, remainder, divided}
@@ -38,12 +38,12 @@ light (p ∷ q ∷ r ∷ s ∷ []) f e l =
     (sym (two p q f.1.0 f.0) ∙ x ∙ two r s (omega arith) (omega arith)) in absurd (omega arith)
 light (p ∷ q ∷ r ∷ s ∷ t ∷ ps) f e l = absurd (omega arith)
 
-pub bits_parity : (m : List ℕ) → All Bit (parity m)
+pub bits_parity : (m : List ℕ) → AllByRecursion Bit (parity m)
 unfolding parity
 bits_parity m = bits_bits 12 (remainder 0 m)
 
 -- lists of bits with equal sums, apart in four places at most, are equal
-pub near_same : (v w : List ℕ) → length v ≡ 63 → length w ≡ 63 → All Bit v → All Bit w → sum_at both v ≡ sum_at both w → distance v w ≤ 4 → v ≡ w
+pub near_same : (v w : List ℕ) → length v ≡ 63 → length w ≡ 63 → AllByRecursion Bit v → AllByRecursion Bit w → sum_at both v ≡ sum_at both w → distance v w ≤ 4 → v ≡ w
 near_same v w l k h i e d =
     let s : length v ≡ length w = l ∙ sym k in
     let n : length (added v w) ≡ 63 = length-added v w s ∙ l in

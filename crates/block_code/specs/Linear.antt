@@ -4,7 +4,7 @@ use Rattle.std.proofs.Common.{ap, ap₂, sym, ◌∙◌, arith, length-append}
 use Rattle.std.proofs.Math.Nat.{zero-div}
 use Rattle.std.specs.Int.Bits.{xor_assoc, xor_self, xor_zero_r}
 use Rattle.std.proofs.lemmas.Nat.{xor_comm, xor_shr, xor_mod}
-use Rattle.std.specs.List.{AllByRecursion as All}
+use Rattle.std.specs.List.{AllByRecursion}
 use Rattle.bits.specs.Strings.{Bit}
 use Rattle.block_code.specs.Bch.{pick, sum_at, bits_of}
 
@@ -41,7 +41,7 @@ length-added (x ∷ xs) [] e = absurd (omega arith)
 length-added (x ∷ xs) (y ∷ ys) e = ap suc (length-added xs ys (omega arith))
 
 module _ (f : ℕ → ℕ) where
-  pub sum_added : (xs ys : List ℕ) → length xs ≡ length ys → All Bit xs → All Bit ys → sum_at f (added xs ys) ≡ bit_xor (sum_at f xs) (sum_at f ys)
+  pub sum_added : (xs ys : List ℕ) → length xs ≡ length ys → AllByRecursion Bit xs → AllByRecursion Bit ys → sum_at f (added xs ys) ≡ bit_xor (sum_at f xs) (sum_at f ys)
   sum_added [] [] e h k = refl
   sum_added [] (y ∷ ys) e h k = absurd (omega arith)
   sum_added (x ∷ xs) [] e h k = absurd (omega arith)
@@ -79,7 +79,7 @@ pub length_bits : (n a : ℕ) → length (bits_of n a) ≡ n
 length_bits zero a = refl
 length_bits (suc n) a = ap suc (length_bits n a)
 
-pub bits_bits : (n a : ℕ) → All Bit (bits_of n a)
+pub bits_bits : (n a : ℕ) → AllByRecursion Bit (bits_of n a)
 bits_bits zero a = tt
 bits_bits (suc n) a = (omega arith, bits_bits n a)
 

@@ -1,7 +1,7 @@
 -- At most one word is near, in any lawful code, so that a correction has one answer.
 use Rattle.std.specs.Prelude.{◌≡◌, ℕ, zero, suc, ◌+◌, ◌*◌, ◌≤◌, ◌⊎◌, List, [], ◌∷◌, length, Ok, Err, Result, refl}
 use Rattle.std.proofs.Common.{ap, sym, ◌∙◌, inl, inr, arith, length-append}
-use Rattle.std.specs.List.{AllByRecursion as All}
+use Rattle.std.specs.List.{AllByRecursion}
 use Rattle.std.proofs.lemmas.Bool.{cases_eq, cases_lt}
 use Rattle.bits.specs.Strings.{Bit, Bits}
 use Rattle.block_code.specs.declared.fault.CorrectFault.{CorrectFault}
@@ -16,7 +16,7 @@ use Rattle.block_code.specs.Distances.{distance_self, distance_via, distance_com
 decide_le : (a b : ℕ) → (a ≤ b) ⊎ (a ≤ b → ⊥)
 decide_le a b = elim (cases_lt b a) [ inl h ↦ inr (λ k. omega arith) | inr h ↦ inl h ]
 
-decide_all : (xs : List ℕ) → All Bit xs ⊎ (All Bit xs → ⊥)
+decide_all : (xs : List ℕ) → AllByRecursion Bit xs ⊎ (AllByRecursion Bit xs → ⊥)
 decide_all [] = inl tt
 decide_all (x ∷ xs) =
     elim (cases_lt x 2) [

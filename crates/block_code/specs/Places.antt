@@ -1,7 +1,7 @@
 -- The set places of a list of bits, and where two lists differ.
 use Rattle.std.specs.Prelude.{◌≡◌, ℕ, zero, suc, ◌<◌, List, [], ◌∷◌, length, bit_xor, refl}
 use Rattle.std.proofs.Common.{ap, ◌∙◌, arith}
-use Rattle.std.specs.List.{AllByRecursion as All}
+use Rattle.std.specs.List.{AllByRecursion}
 use Rattle.bits.specs.Strings.{Bit}
 use Rattle.block_code.specs.Codes.{distance}
 use Rattle.block_code.specs.Bch.{sum_at}
@@ -39,7 +39,7 @@ places_fall [] = tt
 places_fall (zero ∷ w) = falls_more (length w) (places w) (places_fall w)
 places_fall (suc b ∷ w) = (omega arith, places_fall w)
 
-pub length-places : (xs ys : List ℕ) → length xs ≡ length ys → All Bit xs → All Bit ys → length (places (added xs ys)) ≡ distance xs ys
+pub length-places : (xs ys : List ℕ) → length xs ≡ length ys → AllByRecursion Bit xs → AllByRecursion Bit ys → length (places (added xs ys)) ≡ distance xs ys
 length-places [] ys e h k = refl
 length-places (x ∷ xs) [] e h k = absurd (omega arith)
 length-places (zero ∷ xs) (zero ∷ ys) e h k = length-places xs ys (omega arith) h.1 k.1 ∙ omega arith

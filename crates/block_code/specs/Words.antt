@@ -3,7 +3,7 @@ use Rattle.std.specs.Prelude.{◌≡◌, ℕ, zero, suc, ◌+◌, ◌*◌, ◌/�
 use Rattle.std.proofs.Common.{ap, ap₂, sym, ◌∙◌, arith, pow-suc, one-mul, mul_assoc, add-mul, mul_comm, eqb→eq}
 use Rattle.std.specs.Int.Bits.{xor_assoc, xor_self, xor_zero_r, xor_shifted}
 use Rattle.std.proofs.lemmas.Nat.{shr_high, xor_shr, xor_mod, xor_block}
-use Rattle.std.specs.List.{AllByRecursion as All}
+use Rattle.std.specs.List.{AllByRecursion}
 use Rattle.bits.specs.Strings.{Bit}
 use Rattle.block_code.specs.Bch.{pick, sum_at, bits_of, remainder, divided, parity, power, times}
 use Rattle.block_code.specs.Linear.{Linear, pick-xor, pick-map, sum-map, sum_same, sum-append, over, over_linear, length_bits, xor_swap}
@@ -55,7 +55,7 @@ turns_linear (suc n) =
 pub tail : ℕ → ℕ
 tail i = turns i 1337
 
-remainder_from : (r : ℕ) (m : List ℕ) → All Bit m → remainder r m ≡ bit_xor (turns (length m) r) (sum_at tail m)
+remainder_from : (r : ℕ) (m : List ℕ) → AllByRecursion Bit m → remainder r m ≡ bit_xor (turns (length m) r) (sum_at tail m)
 unfolding turns tail
 remainder_from r [] h = sym (xor_zero_r r)
 remainder_from r (b ∷ m) h =
@@ -65,7 +65,7 @@ remainder_from r (b ∷ m) h =
     ∙ ap (bit_xor (turns (length m) (turn r))) (pick-map (turns (length m)) (turns_linear (length m)).zeros b 1337))
     ∙ xor_assoc (turns (length m) (turn r)) (pick b (turns (length m) 1337)) (sum_at tail m)
 
-pub remainder-sum : (m : List ℕ) → All Bit m → remainder 0 m ≡ sum_at tail m
+pub remainder-sum : (m : List ℕ) → AllByRecursion Bit m → remainder 0 m ≡ sum_at tail m
 remainder-sum m h = remainder_from 0 m h ∙ ap (λ x. bit_xor x (sum_at tail m)) (turns_linear (length m)).zeros
 
 -- ---- the sums of a word are zero
@@ -81,13 +81,13 @@ pub length-parity : (m : List ℕ) → length (parity m) ≡ 12
 unfolding parity
 length-parity m = length_bits 12 (remainder 0 m)
 
-sum-parity : (m : List ℕ) → length m ≡ 51 → All Bit m → sum_at both (parity m) ≡ sum_at (λ i. both (i + 12)) m
+sum-parity : (m : List ℕ) → length m ≡ 51 → AllByRecursion Bit m → sum_at both (parity m) ≡ sum_at (λ i. both (i + 12)) m
 unfolding parity over
 sum-parity m l h =
     ap (over both 12) (remainder-sum m h) ∙ sum-map tail (over both 12) (over_linear both 12) m
     ∙ sum_same (λ i. over both 12 (tail i)) (λ i. both (i + 12)) m (λ i k. tail_both i (omega arith))
 
-pub word-zero : (m : List ℕ) → length m ≡ 51 → All Bit m → sum_at both (m ++ parity m) ≡ 0
+pub word-zero : (m : List ℕ) → length m ≡ 51 → AllByRecursion Bit m → sum_at both (m ++ parity m) ≡ 0
 word-zero m l h =
     sum-append both m (parity m)
     ∙ ap₂ bit_xor (ap (λ n. sum_at (λ i. both (i + n)) m) (length-parity m)) (sum-parity m l h)
@@ -120,7 +120,7 @@ xor_same a b e =
 value : List ℕ → ℕ
 value q = sum_at (λ i. 2 ^ i) q
 
-value_lt : (q : List ℕ) → All Bit q → value q < 2 ^ length q
+value_lt : (q : List ℕ) → AllByRecursion Bit q → value q < 2 ^ length q
 unfolding value
 value_lt [] h = omega arith
 value_lt (zero ∷ q) h = omega (arith, value_lt q h.1, pow-suc 2 (length q))
@@ -134,14 +134,14 @@ value_lt (suc zero ∷ q) h =
     )
 value_lt (suc (suc b) ∷ q) h = absurd (omega arith)
 
-value_cons : (b : ℕ) (q : List ℕ) → b < 2 → All Bit q → value (b ∷ q) ≡ b * 2 ^ length q + value q
+value_cons : (b : ℕ) (q : List ℕ) → b < 2 → AllByRecursion Bit q → value (b ∷ q) ≡ b * 2 ^ length q + value q
 unfolding value
 value_cons zero q h k = omega arith
 value_cons (suc zero) q h k =
     ap (λ x. bit_xor x (value q)) (sym (one-mul (2 ^ length q))) ∙ xor_shifted 1 (length q) (value q) (value_lt q k)
 value_cons (suc (suc b)) q h k = absurd (omega arith)
 
-bits_value : (q : List ℕ) (hi : ℕ) → All Bit q → bits_of (length q) (hi * 2 ^ length q + value q) ≡ q
+bits_value : (q : List ℕ) (hi : ℕ) → AllByRecursion Bit q → bits_of (length q) (hi * 2 ^ length q + value q) ≡ q
 bits_value [] hi h = refl
 bits_value (b ∷ q) hi h =
     ap (bits_of (suc (length q))) (shape hi)
@@ -155,7 +155,7 @@ bits_value (b ∷ q) hi h =
         let P : ℕ = 2 ^ length q in
         omega (arith, value_cons b q h.0 h.1, ap (λ x. hi * x) (pow-suc 2 (length q)), mul_assoc hi P 2, add-mul (hi * 2) b P, mul_assoc hi 2 P, ap (λ x. hi * x) (mul_comm 2 P))
 
-pub zero_word : (m q : List ℕ) → length m ≡ 51 → All Bit m → length q ≡ 12 → All Bit q → sum_at both (m ++ q) ≡ 0 → q ≡ parity m
+pub zero_word : (m q : List ℕ) → length m ≡ 51 → AllByRecursion Bit m → length q ≡ 12 → AllByRecursion Bit q → sum_at both (m ++ q) ≡ 0 → q ≡ parity m
 unfolding parity value
 zero_word m q l h k i e = sym (bits ∙ ap (λ n. bits_of n (value q)) (sym k) ∙ ap (bits_of (length q)) plain ∙ bits_value q 0 i)
   where

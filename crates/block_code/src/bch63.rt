@@ -1,5 +1,5 @@
 ghost use Rattle.std.specs.Prelude.{◌≡◌, ℕ, ◌<◌, length, MatchOption};
-ghost use Rattle.std.specs.List.{AllByRecursion as All};
+ghost use Rattle.std.specs.List.{AllByRecursion};
 ghost use Rattle.bits.specs.Strings.{Bit, Bits};
 ghost use Rattle.block_code.specs.Bch.{bch63 as the_code, remainder as remainder_of, bits_of, power, cubed, first, third, Fits1, Fits2, Divides, Sums, Vanish, Only};
 ghost use Rattle.block_code.specs.Codes.{MinimumDistance};
@@ -107,7 +107,7 @@ impl BlockCode for Bch63 {
 
 // The remainder of D^12 times the message by the generator.
 fn remainder(message: &[u8]) -> u16
-    requires { All Bit message.now }
+    requires { AllByRecursion Bit message.now }
     ensures { result ≡ remainder_of 0 message.now }
 {
     let mut r: u16 = 0;

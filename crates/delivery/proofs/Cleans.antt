@@ -1,6 +1,6 @@
 -- What is sent, from the last preamble symbol on, is within reach of its frame, and no bit is spoilt.
 use Rattle.std.proofs.Common.{◌≡◌, ℕ, zero, suc, ◌+◌, ◌*◌, ◌%◌, ◌<◌, ◌≤◌, true, false, cond, eqb, List, [], ◌∷◌, ◌++◌, length, get_or, take, drop, sym, refl, ap, ◌∙◌, subst, ap₂, arith, length-append}
-use Rattle.std.specs.List.{AllByRecursion as All}
+use Rattle.std.specs.List.{AllByRecursion}
 use Rattle.std.proofs.lemmas.List.{take_at, take_all, drop_at, drop-append-le}
 use Rattle.bits.specs.Strings.{Bits}
 use Rattle.frame.specs.Headers as forms
@@ -22,7 +22,7 @@ pub last_at : (p : ℕ) (ss ts : List ℕ) → get_or (p ∷ (ss ++ ts)) (length
 last_at p [] ts = refl
 last_at p (s ∷ ss) ts = last_at s ss ts
 
-pub last_below : (q p : ℕ) (ss : List ℕ) → p < q → All (λ s. s < q) ss → last_of p ss < q
+pub last_below : (q p : ℕ) (ss : List ℕ) → p < q → AllByRecursion (λ s. s < q) ss → last_of p ss < q
 last_below q p [] h a = h
 last_below q p (s ∷ ss) h a = last_below q s ss a.0 a.1
 
@@ -40,7 +40,7 @@ module _ (m : Mode) (M : modes.Lawful m) (n p : ℕ) (xs : List ℕ) (b : Bits n
   unfolding sent
   length_sent = length-stepped m.map (count m (length xs)) p (air m xs) ∙ ap (count m) b.size
 
-  pub sent_below : 2 ≤ n → p < m.map.q → All (λ s. s < m.map.q) (sent m p xs)
+  pub sent_below : 2 ≤ n → p < m.map.q → AllByRecursion (λ s. s < m.map.q) (sent m p xs)
   unfolding sent
   sent_below two h =
       let a = air_bits m M n xs two b in

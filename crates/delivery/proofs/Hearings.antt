@@ -1,7 +1,7 @@
 -- A hearing has one answer: the one legal frame that has the list within reach, or the first fault.
 use Rattle.std.proofs.Common.{◌≡◌, ℕ, ◌+◌, ◌*◌, ◌<◌, ◌≤◌, List, ◌++◌, length, drop, replicate, Ok, Err, Result, sym, refl, ap, ◌∙◌, subst, ap₂, inl, inr, arith}
 use lib.ListN.{length-replicate}
-use Rattle.std.specs.List.{AllByRecursion as All}
+use Rattle.std.specs.List.{AllByRecursion}
 use Rattle.std.proofs.lemmas.Bool.{cases_lt, cases_eq}
 use Rattle.frame.specs.Numbers.{Byte}
 use Rattle.frame.specs.Headers.{Fields, InRange}
@@ -221,7 +221,7 @@ module _ (P : Plan) (L : Lawful P) where
         frame xs = record { rate = x.rate; burst = x.burst; seed = x.seed; psdu = xs }
 
         whole : (bs : List ℕ) (c : ℕ) → length list ≡ needed P m x.bytes → parts.Reach m list (header_count P) (8 * x.bytes) bs c
-            → (xs : List ℕ) × (length xs ≡ x.bytes) × All Byte xs × (scrambled x.seed xs ≡ bs) → Answered before
+            → (xs : List ℕ) × (length xs ≡ x.bytes) × AllByRecursion Byte xs × (scrambled x.seed xs ≡ bs) → Answered before
         whole bs c l r (xs, n, b, e) =
             let same : fields (frame xs) ≡ x = ap (λ k. record { rate = x.rate; bytes = k; burst = x.burst; seed = x.seed }) n in
             let F : Legal P (frame xs) = record { mode = m; carried = S.carried; ranges = subst (InRange P.form) (sym same) W.0; bytes = b } in

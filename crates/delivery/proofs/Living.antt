@@ -1,6 +1,6 @@
 -- Whole lives: what each accepted send wrote, the seeds, and what is heard.
 use Rattle.std.proofs.Common.{◌≡◌, ℕ, ◌%◌, ◌<◌, ◌≤◌, List, [], ◌∷◌, ◌++◌, map, length, drop, Some, Ok, Err, Result, sym, refl, ap, ◌∙◌, arith}
-use Rattle.std.specs.List.{range_with_len, AllByRecursion as All}
+use Rattle.std.specs.List.{range_with_len, AllByRecursion}
 use Rattle.std.proofs.lemmas.List.FromFn.{map-range_with_len_more}
 use Rattle.std.proofs.ByRecursion.{All-push}
 use Rattle.std.proofs.lemmas.List.{length_push, map_push, take_at}
@@ -37,7 +37,7 @@ module _ (P : Plan) where
 
 module _ (P : Plan) (L : Lawful P) where
   -- an accepted send is of a legal frame
-  pub sent_legal : (s : State) (q : Request) (before : List ℕ) (t : State) (after : List ℕ) (n : ℕ) → s.seed < 2 → All Byte q.psdu
+  pub sent_legal : (s : State) (q : Request) (before : List ℕ) (t : State) (after : List ℕ) (n : ℕ) → s.seed < 2 → AllByRecursion Byte q.psdu
       → Sends P s q before t after (Ok n) → Legal P (framed s q)
   sent_legal s q before t after n e b x =
       record {
@@ -47,7 +47,7 @@ module _ (P : Plan) (L : Lawful P) where
         bytes = b;
       }
 
-  pub written : {t : State} {ss : List Sending} → Life P t ss → All (Written P) ss
+  pub written : {t : State} {ss : List Sending} → Life P t ss → AllByRecursion (Written P) ss
   written (opened channel x) = tt
   written (retuned channel s r l x) = written l
   written (refused s q before after f l x) = written l
@@ -68,7 +68,7 @@ module _ (P : Plan) (L : Lawful P) where
       let t = take_at f.psdu (drop (length f.psdu) h.before) (length f.psdu) refl in
       rw (e.0, e.1, t)
 
-  heard : {ss : List Sending} {ts : List Told} {hs : List Hearing} → All (Written P) ss → HeardEach P ss ts hs → map told hs ≡ map Some ts
+  heard : {ss : List Sending} {ts : List Told} {hs : List Hearing} → AllByRecursion (Written P) ss → HeardEach P ss ts hs → map told hs ≡ map Some ts
   heard a none = refl
   heard a (one {s} {k = k} {h = h} r l x more) =
       let e = told_one s.frame k h a.0.legal_frame r l x in

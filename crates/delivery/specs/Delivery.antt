@@ -1,6 +1,6 @@
 -- The delivery theorem.
 use Rattle.std.specs.Prelude.{◌≡◌, ℕ, ◌%◌, ◌≤◌, ◌↔◌, List, [], ◌∷◌, ◌++◌, map, length, take, drop, Some, None, Ok, Err, Option, Result}
-use Rattle.std.specs.List.{range_with_len, AllByRecursion as All}
+use Rattle.std.specs.List.{range_with_len, AllByRecursion}
 use Rattle.delivery.specs.declared.delivered.Delivered.{Delivered}
 use Rattle.delivery.specs.declared.fault.Fault.{Fault}
 use Rattle.delivery.specs.Plans.{Plan, Lawful}
@@ -49,7 +49,7 @@ pub data HeardEach (P : Plan) : List Sending → List Told → List Hearing → 
 -- whatever lists are heard for its frames, each within reach of its frame, by posts of the same plan, exactly these frames
 -- are delivered, in order, with their true counts.
 pub record LivesDeliver (P : Plan) : Type 0 where
-  pub written : {t : State} {ss : List Sending} → Life P t ss → All (Written P) ss
+  pub written : {t : State} {ss : List Sending} → Life P t ss → AllByRecursion (Written P) ss
   pub seeds : {t : State} {ss : List Sending} → Life P t ss
       → map (λ s. s.frame.seed) ss ≡ map (λ i. i % 2) (range_with_len 0 (length ss))
   pub heard : {t : State} {ss : List Sending} {ts : List Told} {hs : List Hearing} → Life P t ss → HeardEach P ss ts hs

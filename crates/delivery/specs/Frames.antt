@@ -1,6 +1,6 @@
 -- Frames, the symbols of a frame, and which heard lists are within reach of it.
 use Rattle.std.specs.Prelude.{◌≡◌, ℕ, ◌+◌, ◌*◌, ◌%◌, cond, List, [], ◌∷◌, ◌++◌, length, Some, None, Option, ◌==◌}
-use Rattle.std.specs.List.{AllByRecursion as All}
+use Rattle.std.specs.List.{AllByRecursion}
 use Rattle.frame.specs.Numbers.{Byte}
 use Rattle.frame.specs.Headers.{Fields, InRange, header}
 use Rattle.frame.specs.Headers as forms
@@ -25,7 +25,7 @@ pub record Legal (P : Plan) (f : Frame) : Type 0 where
   pub mode : Mode
   pub carried : P.rate f.rate ≡ Some mode
   pub ranges : InRange P.form (fields f)
-  pub bytes : All Byte f.psdu
+  pub bytes : AllByRecursion Byte f.psdu
 
 -- ---- its symbols
 

@@ -1,6 +1,6 @@
 -- The life of a sending post: its accepted opening, then sends and retunings in any order, refused ones among them.
 use Rattle.std.specs.Prelude.{ℕ, List, [], ◌∷◌, ◌++◌, Ok, Err, Result}
-use Rattle.std.specs.List.{AllByRecursion as All}
+use Rattle.std.specs.List.{AllByRecursion}
 use Rattle.frame.specs.Numbers.{Byte}
 use Rattle.delivery.specs.declared.fault.Fault.{Fault}
 use Rattle.delivery.specs.Plans.{Plan}
@@ -23,5 +23,5 @@ pub data Life (P : Plan) : State → List Sending → Type 0 where
   refused : (s : State) {t : State} {ss : List Sending} (q : Request) (before after : List ℕ) (f : Fault)
       → Life P s ss → Sends P s q before t after (Err f) → Life P t ss
   sent : (s : State) {t : State} (ss : List Sending) (q : Request) (before after : List ℕ) (n : ℕ)
-      → Life P s ss → All Byte q.psdu → Sends P s q before t after (Ok n)
+      → Life P s ss → AllByRecursion Byte q.psdu → Sends P s q before t after (Ok n)
       → Life P t (ss ++ record { channel = s.channel; frame = framed s q; before = before; answer = n; after = after } ∷ [])

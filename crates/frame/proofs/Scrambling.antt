@@ -2,7 +2,7 @@
 use Rattle.std.proofs.Common.{◌≡◌, ℕ, zero, suc, ◌+◌, ◌-◌, ◌*◌, ◌/◌, ◌%◌, ◌<◌, List, [], ◌∷◌, ◌++◌, map, length, get_or, take, drop, set, sym, refl, ap, ◌∙◌, ap₂, arith, take-add}
 use lib.Bits.{bit_xor, xor_add_and, xor_shr, xor_assoc, xor_self, xor_zero_r}
 use borrow.Rule.Slice.PartMut.{put_mid}
-use Rattle.std.specs.List.{range_with_len, AllByRecursion as All}
+use Rattle.std.specs.List.{range_with_len, AllByRecursion}
 use Rattle.std.proofs.lemmas.List.{append-nil, append_assoc, take_at, drop_at, take-append-drop, length-take, length-take-le, length-drop, take_more, take_more_set, nil_from_length}
 use Rattle.std.proofs.lemmas.Slice.{take-put_mid}
 use Rattle.bits.specs.Strings.{Bit, Bits}
@@ -23,11 +23,11 @@ module _ (x : ℕ → ℕ) where
   pub masked_bits : (n k : ℕ) (bs : List ℕ) → length bs ≡ k → Bits k (masked x n bs)
   masked_bits n k bs e = record { size = length-masked n bs ∙ e; bits = each n bs }
     where
-      each : (n : ℕ) (bs : List ℕ) → All Bit (masked x n bs)
+      each : (n : ℕ) (bs : List ℕ) → AllByRecursion Bit (masked x n bs)
       each n [] = tt
       each n (b ∷ bs) = (omega arith, each (n + 1) bs)
 
-  pub masked_twice : (n : ℕ) (bs : List ℕ) → All Bit bs → masked x n (masked x n bs) ≡ bs
+  pub masked_twice : (n : ℕ) (bs : List ℕ) → AllByRecursion Bit bs → masked x n (masked x n bs) ≡ bs
   masked_twice n [] h = refl
   masked_twice n (b ∷ bs) h =
       let l : b < 2 = h.0 in
@@ -78,14 +78,14 @@ unfolding bytes
 length_bytes zero bs = refl
 length_bytes (suc n) bs = ap suc (length_bytes n (drop 8 bs))
 
-bytes_each : (n : ℕ) (bs : List ℕ) → Bits (8 * n) bs → All Byte (bytes n bs)
+bytes_each : (n : ℕ) (bs : List ℕ) → Bits (8 * n) bs → AllByRecursion Byte (bytes n bs)
 unfolding bytes
 bytes_each zero bs b = tt
 bytes_each (suc n) bs b =
     let c = resized (8 * suc n) (8 + 8 * n) bs (omega arith) b in
     (number_below 8 (take 8 bs) (take_bits 8 (8 * n) bs c), bytes_each n (drop 8 bs) (drop_bits 8 (8 * n) bs c))
 
-bytes_of : (xs : List ℕ) → All Byte xs → bytes (length xs) (byte_bits xs) ≡ xs
+bytes_of : (xs : List ℕ) → AllByRecursion Byte xs → bytes (length xs) (byte_bits xs) ≡ xs
 unfolding bytes
 bytes_of [] h = refl
 bytes_of (x ∷ xs) h =
@@ -106,14 +106,14 @@ byte_bits_of (suc n) bs b =
 pub scrambled_bits : (seed : ℕ) (xs : List ℕ) → Bits (8 * length xs) (scrambled seed xs)
 scrambled_bits seed xs = masked_bits (keystream seed) 0 (8 * length xs) (byte_bits xs) (byte_bits_bits xs).size
 
-pub scrambled_apart : (seed : ℕ) (xs ys : List ℕ) → All Byte xs → All Byte ys → length xs ≡ length ys → scrambled seed xs ≡ scrambled seed ys → xs ≡ ys
+pub scrambled_apart : (seed : ℕ) (xs ys : List ℕ) → AllByRecursion Byte xs → AllByRecursion Byte ys → length xs ≡ length ys → scrambled seed xs ≡ scrambled seed ys → xs ≡ ys
 scrambled_apart seed xs ys a b l e =
     let x = keystream seed in
     let s : byte_bits xs ≡ byte_bits ys =
     sym (masked_twice x 0 (byte_bits xs) (byte_bits_bits xs).bits) ∙ ap (masked x 0) e ∙ masked_twice x 0 (byte_bits ys) (byte_bits_bits ys).bits in
     sym (bytes_of xs a) ∙ ap₂ bytes l s ∙ bytes_of ys b
 
-pub scrambled_onto : (seed n : ℕ) (bits : List ℕ) → Bits (8 * n) bits → (xs : List ℕ) × (length xs ≡ n) × All Byte xs × (scrambled seed xs ≡ bits)
+pub scrambled_onto : (seed n : ℕ) (bits : List ℕ) → Bits (8 * n) bits → (xs : List ℕ) × (length xs ≡ n) × AllByRecursion Byte xs × (scrambled seed xs ≡ bits)
 scrambled_onto seed n bits h =
     let x = keystream seed in
     let c = masked x 0 bits in
@@ -143,7 +143,7 @@ module _ (seed i : ℕ) (xs bs : List ℕ) (inside : i < length xs) (long : leng
   part_is : part ≡ take 8 (drop (8 * i) bs)
   part_is = let e : 8 * i + 8 - 8 * i ≡ 8 = omega arith in ap (λ n. take n (drop (8 * i) bs)) e
 
-  pub part_bits : All Bit bs → Bits 8 part
+  pub part_bits : AllByRecursion Bit bs → Bits 8 part
   part_bits h =
       rw part_is
       (take_bits 8 (8 * (length xs - i) - 8) (drop (8 * i) bs)
@@ -169,7 +169,7 @@ module _ (seed i : ℕ) (xs bs : List ℕ) (inside : i < length xs) (long : leng
       ap (scrambled seed) (take_more xs i 0 inside) ∙ scrambled_push seed (8 * i) (take i xs) y (ap (λ n. 8 * n) (length-take-le i xs (omega arith))) in
       take-put_mid (8 * i) (8 * i + 8 - 8 * i) bs ys (8 * (i + 1)) (omega arith) (omega arith) ∙ ap₂ (λ us vs. us ++ vs) done g ∙ sym s
 
-  pub unscramble_more : (n m : ℕ) → All Bit bs → scrambled seed (take i xs) ≡ take (8 * i) bs → m ≡ mask seed (8 * i) 8
+  pub unscramble_more : (n m : ℕ) → AllByRecursion Bit bs → scrambled seed (take i xs) ≡ take (8 * i) bs → m ≡ mask seed (8 * i) 8
       → n ≡ number_of part → scrambled seed (take (i + 1) (set xs i (bit_xor n m))) ≡ take (8 * (i + 1)) bs
   unscramble_more n m h done e f =
       let y = bit_xor n m in

@@ -1,6 +1,6 @@
 -- What the calls answer, and what they leave in their buffers.
 use Rattle.std.specs.Prelude.{◌≡◌, ℕ, ◌*◌, ◌<◌, Bool, List, length, Ok, Err, Result, ◌≢◌}
-use Rattle.std.specs.List.{AllByRecursion as All}
+use Rattle.std.specs.List.{AllByRecursion}
 use Rattle.bits.specs.declared.bad_call.BadCall.{BadCall}
 use Rattle.bits.specs.Strings.{Bits}
 use Rattle.frame.specs.declared.header.Header.{Header}
@@ -30,12 +30,12 @@ Reads f legal bits (Err (Call e)) = Bits (count f) bits → ⊥
 -- is refused and writes nothing.
 abbrev pub Scrambles : ℕ → List ℕ → List ℕ → List ℕ → Result (Unit {0}) BadCall → Type 0
 Scrambles seed psdu before after (Ok u) =
-    (seed < 2) × All Byte psdu × (length before ≡ 8 * length psdu) × (after ≡ scrambled seed psdu)
+    (seed < 2) × AllByRecursion Byte psdu × (length before ≡ 8 * length psdu) × (after ≡ scrambled seed psdu)
 Scrambles seed psdu before after (Err e) = (seed < 2 → length before ≢ 8 * length psdu) × (after ≡ before)
 
 -- Unscrambling: with a seed of 0 or 1 and eight bits for each place, the places become the bytes of which these are the
 -- scrambled bits. Any other call is refused and writes nothing.
 abbrev pub Unscrambles : ℕ → List ℕ → List ℕ → List ℕ → Result (Unit {0}) BadCall → Type 0
 Unscrambles seed bits before after (Ok u) =
-    (seed < 2) × Bits (8 * length before) bits × (length after ≡ length before) × All Byte after × (scrambled seed after ≡ bits)
+    (seed < 2) × Bits (8 * length before) bits × (length after ≡ length before) × AllByRecursion Byte after × (scrambled seed after ≡ bits)
 Unscrambles seed bits before after (Err e) = (seed < 2 → Bits (8 * length before) bits → ⊥) × (after ≡ before)

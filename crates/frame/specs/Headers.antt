@@ -1,6 +1,6 @@
 -- What a header says, header forms, and what the bits of a header are read as.
 use Rattle.std.specs.Prelude.{◌≡◌, ℕ, ◌+◌, ◌<◌, ◌≤◌, Bool, true, false, List, ◌++◌, get_or, take, drop, Ok, Err, Result, slice_index, slice_index_or}
-use Rattle.std.specs.List.{ContainsAt as Has, AllByRecursion as All}
+use Rattle.std.specs.List.{ContainsAt as Has, AllByRecursion}
 use Rattle.bits.specs.Strings.{Bits}
 use Rattle.frame.specs.declared.fault.FormFault.{FormFault}
 use Rattle.frame.specs.declared.fault.FormFault.TheVariants.{Check, Reserved, Rate}
@@ -50,13 +50,13 @@ Checked f bits = drop f.body bits ≡ f.check (take f.body bits)
 
 -- the reserved places hold zeros
 abbrev pub Clear : Form → List ℕ → Type 0
-Clear f bits = All (λ p. slice_index bits p ≡ 0) f.reserved
+Clear f bits = AllByRecursion (λ p. slice_index bits p ≡ 0) f.reserved
 
 -- p is the lowest reserved place that holds a one
 pub record LowestSet (f : Form) (bits : List ℕ) (p : ℕ) : Type 0 where
   pub reserved : Has f.reserved p
   pub set : get_or bits p 0 ≡ 1
-  pub lowest : All (λ q. slice_index bits q ≡ 1 → p ≤ q) f.reserved
+  pub lowest : AllByRecursion (λ q. slice_index bits q ≡ 1 → p ≤ q) f.reserved
 
 -- the plan carries rate r: there are rates 0 to 3, and the plan's entry for r is true
 abbrev pub Carried : List Bool → ℕ → Type 0

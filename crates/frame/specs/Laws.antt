@@ -1,6 +1,6 @@
 -- What the contracts' words amount to, over all forms, bits and bytes.
 use Rattle.std.specs.Prelude.{◌≡◌, ℕ, ◌+◌, ◌-◌, ◌*◌, ◌%◌, ◌<◌, Bool, List, length, Result, slice_index}
-use Rattle.std.specs.List.{AllByRecursion as All}
+use Rattle.std.specs.List.{AllByRecursion}
 use Rattle.bits.specs.Strings.{Bits}
 use Rattle.frame.specs.declared.fault.FormFault.{FormFault}
 use Rattle.frame.specs.Numbers.{Byte}
@@ -36,5 +36,5 @@ KeystreamRecurs =
 abbrev pub ScramblingIsInvertible : Type 0
 ScramblingIsInvertible =
     ((seed : ℕ) (xs : List ℕ) → Bits (8 * length xs) (scrambled seed xs))
-    × ((seed : ℕ) (xs ys : List ℕ) → All Byte xs → All Byte ys → length xs ≡ length ys → scrambled seed xs ≡ scrambled seed ys → xs ≡ ys)
-    × ((seed n : ℕ) (bits : List ℕ) → Bits (8 * n) bits → (xs : List ℕ) × (length xs ≡ n) × All Byte xs × (scrambled seed xs ≡ bits))
+    × ((seed : ℕ) (xs ys : List ℕ) → AllByRecursion Byte xs → AllByRecursion Byte ys → length xs ≡ length ys → scrambled seed xs ≡ scrambled seed ys → xs ≡ ys)
+    × ((seed n : ℕ) (bits : List ℕ) → Bits (8 * n) bits → (xs : List ℕ) × (length xs ≡ n) × AllByRecursion Byte xs × (scrambled seed xs ≡ bits))

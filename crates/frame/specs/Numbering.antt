@@ -2,7 +2,7 @@
 use Rattle.std.specs.Prelude.{◌≡◌, ℕ, zero, suc, ◌+◌, ◌-◌, ◌*◌, ◌/◌, ◌%◌, ◌^◌, ◌<◌, ◌≤◌, List, [], ◌∷◌, ◌++◌, length, take, drop, slice_index, refl}
 use Rattle.std.proofs.Common.{sym, ap, ◌∙◌, mul_left_comm, arith, pow_mono}
 use Rattle.std.proofs.Math.Nat.{pow-succ'}
-use Rattle.std.specs.List.{AllByRecursion as All}
+use Rattle.std.specs.List.{AllByRecursion}
 use Rattle.std.proofs.lemmas.List.{length-append, length-take-le, length-drop, take_more, at_drop_more}
 use Rattle.std.proofs.ByRecursion.{All-append, All-take, All-drop}
 use Rattle.std.proofs.lemmas.Nat.{shr-shr}
@@ -45,7 +45,7 @@ number_below (suc w) (x ∷ bs) b =
     omega (arith, b.bits.0, number_below w bs (record { size = omega (arith, b.size); bits = b.bits.1 }))
 
 -- at most w bits
-pub number_few : (w : ℕ) (bs : List ℕ) → length bs ≤ w → All Bit bs → number_of bs < 2 ^ w
+pub number_few : (w : ℕ) (bs : List ℕ) → length bs ≤ w → AllByRecursion Bit bs → number_of bs < 2 ^ w
 number_few w bs l h =
     let m : 2 ^ length bs ≤ 2 ^ w = pow_mono l in
     omega (arith, number_below (length bs) bs (record { size = refl; bits = h }))
@@ -80,7 +80,7 @@ get_or-low_bits zero n k l = absurd (omega arith)
 get_or-low_bits (suc w) n zero l = omega arith
 get_or-low_bits (suc w) n (suc k) l = get_or-low_bits w (n / 2) k (omega arith) ∙ ap (λ m. m % 2) (sym (half_shr n k))
 
-pub bit_of_number : (bs : List ℕ) (k : ℕ) → All Bit bs → number_of bs / 2 ^ k % 2 ≡ slice_index bs k
+pub bit_of_number : (bs : List ℕ) (k : ℕ) → AllByRecursion Bit bs → number_of bs / 2 ^ k % 2 ≡ slice_index bs k
 bit_of_number [] k b = ap (λ m. m % 2) (zero-shr k)
   where
     zero-shr : (k : ℕ) → 0 / 2 ^ k ≡ 0
@@ -100,7 +100,7 @@ module _ (bs : List ℕ) (i : ℕ) (low : 0 < i) (high : i ≤ length bs) where
       let f : number_of (drop (i - 1 + 1) bs) ≡ number_of (drop i bs) = ap (λ m. number_of (drop m bs)) (omega arith) in
       omega arith
 
-  pub number-drop_below : length bs ≤ 8 → All Bit bs → 2 * number_of (drop i bs) + slice_index bs (i - 1) < 256
+  pub number-drop_below : length bs ≤ 8 → AllByRecursion Bit bs → 2 * number_of (drop i bs) + slice_index bs (i - 1) < 256
   number-drop_below l h =
       let k : length (drop (i - 1) bs) ≤ 8 = simp length-drop (omega arith) in
       omega (arith, number-drop_more, number_few 8 (drop (i - 1) bs) k (All-drop Bit (i - 1) bs h))

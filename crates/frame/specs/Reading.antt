@@ -1,7 +1,7 @@
 -- The bits of a header are read as one thing, in any form.
 use Rattle.std.specs.Prelude.{◌≡◌, ℕ, zero, suc, ◌<◌, ◌≤◌, Bool, true, false, ◌⊎◌, List, [], ◌∷◌, get_or, take, drop, Ok, Err, Result, slice_index, slice_index_or, refl}
 use Rattle.std.proofs.Common.{sym, ap, ◌∙◌, inl, inr, arith}
-use Rattle.std.specs.List.{ContainsAt as Has, AllByRecursion as All}
+use Rattle.std.specs.List.{ContainsAt as Has, AllByRecursion}
 use Rattle.std.proofs.lemmas.Bool.{cases_eq, cases_lt, cases_Bool, false≢true}
 use Rattle.std.proofs.ByRecursion.{all-has, All-weaker}
 use Rattle.bits.specs.Strings.{Bit}
@@ -32,18 +32,18 @@ decide_carried legal r = go (cases_lt 3 r) (cases_Bool (slice_index_or legal r f
     go (inr l) (inl e) = inl (l, e)
     go (inr l) (inr e) = inr (λ h. false≢true (sym e ∙ h.1))
 
-pub bit_at : (bits : List ℕ) (p : ℕ) → All Bit bits → slice_index bits p < 2
+pub bit_at : (bits : List ℕ) (p : ℕ) → AllByRecursion Bit bits → slice_index bits p < 2
 bit_at [] p h = omega arith
 bit_at (b ∷ bits) zero h = h.0
 bit_at (b ∷ bits) (suc p) h = bit_at bits p h.1
 
 -- some place holds a one, and the lowest such is known; or none does
-module _ (bits : List ℕ) (valid : All Bit bits) where
+module _ (bits : List ℕ) (valid : AllByRecursion Bit bits) where
   abbrev Clean : List ℕ → Type 0
-  Clean places = All (λ p. slice_index bits p ≡ 0) places
+  Clean places = AllByRecursion (λ p. slice_index bits p ≡ 0) places
 
   abbrev Lowest : List ℕ → ℕ → Type 0
-  Lowest places p = Has places p × (slice_index bits p ≡ 1) × All (λ q. slice_index bits q ≡ 1 → p ≤ q) places
+  Lowest places p = Has places p × (slice_index bits p ≡ 1) × AllByRecursion (λ q. slice_index bits q ≡ 1 → p ≤ q) places
 
   here : (p : ℕ) (places : List ℕ) → Has (p ∷ places) p
   here p places = (0, omega arith, λ d. refl)
@@ -99,7 +99,7 @@ module _ (f : Form) (legal : List Bool) (bits : List ℕ) where
   read_one (Err (Rate p)) (Err (Reserved q)) a b = absurd (unclear b.1 a.1)
   read_one (Err (Rate p)) (Err (Rate q)) a b = ap (λ n. Err (Rate n)) (a.3 ∙ sym b.3)
 
-  pub read_some : All Bit bits → (r : Result Fields FormFault) × Read f legal bits r
+  pub read_some : AllByRecursion Bit bits → (r : Result Fields FormFault) × Read f legal bits r
   read_some valid =
       go (decide_same (drop f.body bits) (f.check (take f.body bits))) (lowest_set bits valid f.reserved) (decide_carried legal (f.fields bits).rate)
     where

@@ -4,7 +4,7 @@ use Rattle.std.proofs.Math.Path.{sym, ap}
 use Rattle.std.proofs.Common.{subst, ◌∙◌}
 use native.Mathlib.Omega.{arith}
 use borrow.Rule.Slice.PartMut.{put_mid, post_of}
-use Rattle.std.specs.List.{range_with_len, AllByRecursion as All}
+use Rattle.std.specs.List.{range_with_len, AllByRecursion}
 use Rattle.std.proofs.lemmas.List.{append-nil, length-drop, take_at, take_all, drop_at, drop_all, take-append-drop}
 use Rattle.std.proofs.lemmas.List.FromFn.{fill_by_all}
 use Rattle.bits.specs.Strings.{Bit, Bits}
@@ -129,7 +129,7 @@ module _ (was us vs : List ℕ) (x : Fields) (long : length was ≡ 19) (first :
   body : InRange narrowband x → take 15 (placed was us vs x) ≡ said x
   body r = ap (take 15) whole ∙ take_at (said x) (drop 15 was) 15 (said_bits x r.burst r.seed).size
 
-  pub body_bits : InRange narrowband x → All Bit (take 15 (placed was us vs x))
+  pub body_bits : InRange narrowband x → AllByRecursion Bit (take 15 (placed was us vs x))
   body_bits r = rw (body r) (said_bits x r.burst r.seed).bits
 
   pub header-written : (check last : List ℕ) → InRange narrowband x → check ≡ hcs (take 15 (placed was us vs x)) → last ≡ check

@@ -5,7 +5,7 @@
 //
 // RATE and LENGTH (the bytes of the PSDU past nine) stand lowest bit first, the HCS highest bit first.
 ghost use Rattle.std.specs.Prelude.{◌≡◌, ◌<◌, true, Decides, MatchResult};
-ghost use Rattle.std.specs.List.{AllByRecursion as All};
+ghost use Rattle.std.specs.List.{AllByRecursion};
 ghost use Rattle.bits.specs.Strings.{Bit, Bits};
 ghost use Rattle.frame.specs.declared.fault.FormFault.{FormFault};
 ghost use Rattle.frame.specs.declared.fault.FormFault.TheVariants.{Check, Reserved, Rate};
@@ -39,7 +39,7 @@ fn shift_in(register: u8, bit: u8) -> u8
 
 // The header check sequence of the bits.
 fn check_sequence(bits: &[u8]) -> [u8; 4]
-    requires { All Bit bits.now }
+    requires { AllByRecursion Bit bits.now }
     ensures { result ≡ hcs bits.now }
 {
     let mut register = 0b1111;

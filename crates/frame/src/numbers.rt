@@ -1,6 +1,6 @@
 // Numbers as bits, lowest first.
 ghost use Rattle.std.specs.Prelude.{◌≡◌, ◌≤◌, length};
-ghost use Rattle.std.specs.List.{AllByRecursion as All};
+ghost use Rattle.std.specs.List.{AllByRecursion};
 ghost use Rattle.bits.specs.Strings.{Bit};
 ghost use Rattle.frame.specs.Numbers.{low_bits, number_of};
 
@@ -17,7 +17,7 @@ pub(crate) fn put_low_bits(number: u8, places: &mut [u8])
 // The number that the bits make.
 pub(crate) fn number_of(bits: &[u8]) -> u8
     requires few { length bits.now ≤ 8 }
-    requires valid { All Bit bits.now }
+    requires valid { AllByRecursion Bit bits.now }
     ensures { result ≡ number_of bits.now }
 {
     let mut number = 0;

@@ -2,7 +2,7 @@
 use Rattle.std.specs.Prelude.{◌≡◌, ℕ, ◌+◌, ◌-◌, ◌*◌, ◌/◌, ◌%◌, ◌^◌, ◌<◌, ◌≤◌, List, [], ◌∷◌, ◌++◌, length, take, slice_index, slice_set, refl}
 use Rattle.std.proofs.Common.{sym, ap, ◌∙◌, subst, arith, div-one, pow_mono}
 use Rattle.std.proofs.Math.Nat.{div-eq_of_lt}
-use Rattle.std.specs.List.{AllByRecursion as All}
+use Rattle.std.specs.List.{AllByRecursion}
 use Rattle.std.specs.Int.Digits.{number_from_digits, number_from_digits_after}
 use Rattle.std.proofs.lemmas.Nat.{shr-shr}
 use Rattle.std.proofs.lemmas.Int.Digits.{number_lt, number_push, number_more}
@@ -11,7 +11,7 @@ use Rattle.std.proofs.lemmas.List.{length-take, take_more_set, take_all}
 use Rattle.bits.specs.Strings.{Bit, Bits}
 
 -- bits of one length that write one number are the same
-same_after : (n m : ℕ) (xs ys : List ℕ) → All Bit xs → All Bit ys → length xs ≡ length ys → number_from_digits_after 2 n xs ≡ number_from_digits_after 2 m ys → (n ≡ m) × (xs ≡ ys)
+same_after : (n m : ℕ) (xs ys : List ℕ) → AllByRecursion Bit xs → AllByRecursion Bit ys → length xs ≡ length ys → number_from_digits_after 2 n xs ≡ number_from_digits_after 2 m ys → (n ≡ m) × (xs ≡ ys)
 same_after n m [] [] a b l e = (e, refl)
 same_after n m [] (y ∷ ys) a b l e = absurd (omega arith)
 same_after n m (x ∷ xs) [] a b l e = absurd (omega arith)
@@ -28,7 +28,7 @@ pub number_below : (w : ℕ) (bs : List ℕ) → Bits w bs → number_from_digit
 number_below w bs b = rw (sym b.size) (number_lt 2 bs b.bits)
 
 -- the number of the first i of at most three bits is small
-pub front_small : (bs : List ℕ) (i : ℕ) → All Bit bs → length bs ≤ 3 → number_from_digits 2 (take i bs) < 8
+pub front_small : (bs : List ℕ) (i : ℕ) → AllByRecursion Bit bs → length bs ≤ 3 → number_from_digits 2 (take i bs) < 8
 front_small bs i b h =
     let l : number_from_digits 2 (take i bs) < 2 ^ length (take i bs) = number_lt 2 (take i bs) (All-take Bit i bs b) in
     let s : length (take i bs) ≤ 3 = simp length-take (omega arith) in
@@ -37,7 +37,7 @@ front_small bs i b h =
 
 -- the first i of w places hold the highest bits of n
 pub record Written (n w i : ℕ) (places : List ℕ) : Type 0 where
-  pub bits : All Bit (take i places)
+  pub bits : AllByRecursion Bit (take i places)
   pub high : number_from_digits 2 (take i places) ≡ n / 2 ^ (w - i)
 
 pub written_none : (n w : ℕ) (places : List ℕ) → n < 2 ^ w → Written n w 0 places
@@ -57,7 +57,7 @@ written_more n w i places h l p =
     let now : n / 2 ^ k ≡ n / 2 ^ (w - (i + 1)) = ap (λ j. n / 2 ^ j) (let j : k ≡ w - (i + 1) = omega arith in j) in
     let push = number_push 2 (take i places) b in
     record {
-      bits = subst (All Bit) (sym e) (All-push Bit (take i places) b p.bits (omega arith));
+      bits = subst (AllByRecursion Bit) (sym e) (All-push Bit (take i places) b p.bits (omega arith));
       high = ap (number_from_digits 2) e ∙ (let r : number_from_digits 2 (take i places ++ b ∷ []) ≡ n / 2 ^ (w - (i + 1)) = omega (arith, halves n k) in r);
     }
 
@@ -65,7 +65,7 @@ pub written_all : (n w i : ℕ) (places : List ℕ) → i ≡ w → length place
 written_all n w i places j l p =
     let e : take i places ≡ places = take_all i places (omega arith) in
     let z : w - i ≡ 0 = omega arith in (
-      record { size = l; bits = subst (All Bit) e p.bits },
+      record { size = l; bits = subst (AllByRecursion Bit) e p.bits },
       ap (number_from_digits 2) (sym e) ∙ (p.high ∙ (ap (λ k. n / 2 ^ k) z ∙ div-one n)),
     )
 

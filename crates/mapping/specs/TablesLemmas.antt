@@ -1,7 +1,7 @@
 -- Tables of phase steps: what the test of a table tells, and the law of the mapping that it gives.
 use Rattle.std.specs.Prelude.{◌≡◌, ℕ, zero, suc, ◌+◌, ◌%◌, ◌^◌, ◌<◌, ◌≤◌, true, not, ◌&&◌, List, [], ◌∷◌, length, ◌==◌, ◌≢◌, nat_le, nat_lt, slice_index, refl}
 use Rattle.std.proofs.Common.{sym, ap, arith}
-use Rattle.std.specs.List.{AllByRecursion as All}
+use Rattle.std.specs.List.{AllByRecursion}
 use Rattle.std.specs.Int.Digits.{number_from_digits}
 use Rattle.std.proofs.ByRecursion.{All-get_or}
 use Rattle.std.proofs.lemmas.Bool.{and_parts, ltb-true, leb-true, eqb-true, eqb-false, not-true}
@@ -26,7 +26,7 @@ module _ (x : ℕ) (xs : List ℕ) (t : distinct (x ∷ xs) ≡ true) where
   rest : (lacks x xs ≡ true) × (distinct xs ≡ true)
   rest = and_parts (lacks x xs) (distinct xs) (and_parts (nat_lt x 16) (lacks x xs && distinct xs) t).1
 
-distinct_below : (xs : List ℕ) → distinct xs ≡ true → All (λ x. x < 16) xs
+distinct_below : (xs : List ℕ) → distinct xs ≡ true → AllByRecursion (λ x. x < 16) xs
 distinct_below [] t = tt
 distinct_below (x ∷ xs) t = (first_below x xs t, distinct_below xs (rest x xs t).1)
 
@@ -88,7 +88,7 @@ lawful w steps t =
     }
 
 -- w bits pick one of the steps
-pub picked : (w n : ℕ) (steps bs : List ℕ) → serves w steps ≡ true → length bs ≡ w → All Bit bs → n ≡ number_from_digits 2 bs → (n < length steps) × (slice_index steps n < 16)
+pub picked : (w n : ℕ) (steps bs : List ℕ) → serves w steps ≡ true → length bs ≡ w → AllByRecursion Bit bs → n ≡ number_from_digits 2 bs → (n < length steps) × (slice_index steps n < 16)
 picked w n steps bs t l b e =
     let k = table w steps t in
     let h : n < length steps = omega (arith, number_in w steps bs k (record { size = l; bits = b })) in

@@ -1,7 +1,7 @@
 // Mappings of bits to steps of the phase. Phases are numbered 0 to 15, in steps of π/8, and a step is added modulo 16.
 ghost use Rattle.std.specs.Prelude.{◌≡◌, ◌^◌, ◌<◌, ◌≤◌, true, length, MatchOption};
 ghost use Rattle.std.specs.Int.Digits.{number_from_digits};
-ghost use Rattle.std.specs.List.{AllByRecursion as All};
+ghost use Rattle.std.specs.List.{AllByRecursion};
 ghost use Rattle.bits.specs.Strings.{Bit, Bits};
 ghost use Rattle.mapping.specs.Answers.{Steps, Reads};
 ghost use Rattle.mapping.specs.Mappings.{phases, dbpsk, dqpsk, d8psk};
@@ -38,7 +38,7 @@ const D8PSK_STEPS: [u8; 8] = [1, 3, 7, 5, 15, 13, 9, 11];
 
 // The number that bits write, the first bit the highest.
 fn number_of(bits: &[u8]) -> usize
-    requires binary { All Bit bits.now }
+    requires binary { AllByRecursion Bit bits.now }
     requires short { length bits.now ≤ 3 }
     ensures { result ≡ number_from_digits 2 bits.now }
 {

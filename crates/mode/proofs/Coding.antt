@@ -1,7 +1,7 @@
 -- Writing the words of a part, copies of their bits, and the symbols of these, one after the other.
 use Rattle.std.proofs.Common.{◌≡◌, ℕ, suc, ◌+◌, ◌-◌, ◌*◌, ◌<◌, ◌≤◌, min, List, [], ◌∷◌, ◌++◌, length, get_or, take, drop, set, replicate, sym, refl, ap, ◌∙◌, mul-le-mul_right, mul-le-mul_left, arith}
 use borrow.Rule.Slice.PartMut.{put_mid}
-use Rattle.std.specs.List.{AllByRecursion as All}
+use Rattle.std.specs.List.{AllByRecursion}
 use Rattle.std.proofs.lemmas.List.{append-nil, append_assoc, drop_all, take_at, length-append, length-drop, drop-drop, take_all, length-take, take_more, take_more_set, length-set}
 use Rattle.std.proofs.ByRecursion.{All-drop}
 use Rattle.std.proofs.lemmas.Slice.{take-put_mid}
@@ -60,7 +60,7 @@ turn c xs os i from at j k m u p h e w l x y =
     let f : u ≡ unsent c.k n i = rw e at y in
     let g : drop i (unsents c.k n) ≡ u ∷ drop (i + 1) (unsents c.k n) = rw f (unsents_more c.k n i a) in
     let b = All-drop (λ z. z < c.k) i (unsents c.k n) (unsents_below c.k n p) in
-    let d : All (λ z. z < c.k) (u ∷ drop (i + 1) (unsents c.k n)) = rw g at b in
+    let d : AllByRecursion (λ z. z < c.k) (u ∷ drop (i + 1) (unsents c.k n)) = rw g at b in
     let z : m ≡ c.k - u = omega (arith, x, y, e) in
     record {
       next = g;

@@ -1,6 +1,6 @@
 -- Deciding bits from their copies, counting those that are spoilt, and the lowest symbol, one element after the other.
 use Rattle.std.proofs.Common.{◌≡◌, ℕ, suc, ◌+◌, ◌-◌, ◌*◌, ◌<◌, ◌≤◌, List, [], ◌∷◌, ◌++◌, length, get_or, take, drop, set, sym, ap, ◌∙◌, inl, inr, mul-le-mul_left, arith}
-use Rattle.std.specs.List.{AllByRecursion as All}
+use Rattle.std.specs.List.{AllByRecursion}
 use Rattle.std.proofs.lemmas.List.{at_drop_more, at_drop_all, drop-drop, length-take, length-map, take-map, drop-map, append-nil, append_assoc, take_all, take_more_set, length-set}
 use Rattle.std.proofs.ByRecursion.{All-get_or}
 use Rattle.std.proofs.lemmas.Bool.{eq-eqb, ne_eqb, le-leb, lt-leb, lt-ltb, le-ltb, cases_eq}
@@ -48,7 +48,7 @@ module _ (hs : List AirBit) (r : ℕ) (e : r ≡ differing (get_or hs 0 none).bi
   pub against_le : r ≤ length hs
   against_le = omega (arith, counted, differing-le (get_or (bits_of hs) 0 0) (bits_of hs), length_bits hs)
 
-  pub first_bit : 0 < length hs → All Bit (bits_of hs) → (get_or hs 0 none).bit ≤ 1
+  pub first_bit : 0 < length hs → AllByRecursion Bit (bits_of hs) → (get_or hs 0 none).bit ≤ 1
   first_bit p h = omega (arith, bit_is hs 0, All-get_or Bit (bits_of hs) 0 0 (omega (arith, length_bits hs)) h)
 
   pub majority_other : length hs - r < r → 1 - (get_or hs 0 none).bit ≡ majority (bits_of hs)

@@ -1,6 +1,6 @@
 -- A word is found exactly when some word has at most t spoilt bits; and the words of a part, one after the other.
 use Rattle.std.proofs.Common.{◌≡◌, ℕ, zero, suc, ◌+◌, ◌-◌, ◌*◌, ◌<◌, ◌≤◌, min, List, [], ◌∷◌, ◌++◌, length, get_or, take, drop, Err, sym, refl, ap, ◌∙◌, inl, inr, mul-le-mul_left, arith}
-use Rattle.std.specs.List.{AllByRecursion as All}
+use Rattle.std.specs.List.{AllByRecursion}
 use Rattle.std.proofs.lemmas.List.{length-take-le, length-drop, length-append, append_assoc, drop-drop, drop_all, take_all, take_more, take-append-drop, take-append-le, drop-append-le, nil_from_length}
 use Rattle.std.proofs.ByRecursion.{All-append}
 use Rattle.std.proofs.lemmas.Bool.{cases_lt}
@@ -24,7 +24,7 @@ use Rattle.mode.proofs.Splits.{carried, words_room, carried-unsents, length-unse
 use Rattle.mode.proofs.Readings.{within_found}
 use Rattle.mode.proofs.Room.{front_is}
 
-module _ (c : Code) (L : codes.Lawful c) (s : ℕ) (es : List ℕ) (p : 0 < s) (bits : All Bit es) (n : ℕ) (size : n ≡ c.k + c.p) (room : length es ≡ s * n) (before : List ℕ) (be : before ≡ decided s n es) where
+module _ (c : Code) (L : codes.Lawful c) (s : ℕ) (es : List ℕ) (p : 0 < s) (bits : AllByRecursion Bit es) (n : ℕ) (size : n ≡ c.k + c.p) (room : length es ≡ s * n) (before : List ℕ) (be : before ≡ decided s n es) where
   word-decided : Bits (c.k + c.p) (decided s n es)
   word-decided = bits_at _ _ (decided s n es) size (decided_bits s n es p (omega arith) bits)
 
@@ -137,7 +137,7 @@ pub record Hearing (c : Code) (s : ℕ) (es os : List ℕ) (n j from at total : 
   pub sent : from ≡ carried c.k (take j (unsents c.k n))
   pub place : at ≡ s * sized c (take j (unsents c.k n))
   pub left : at + s * sized c (drop j (unsents c.k n)) ≤ length es
-  pub bits : All Bit (take from os)
+  pub bits : AllByRecursion Bit (take from os)
   pub within : Within c s (take j (unsents c.k n)) (take from os) es
   pub counts : spoilt_all c s (take j (unsents c.k n)) (take from os) es ≡ total
   pub few : total ≤ 63 * j

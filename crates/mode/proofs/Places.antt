@@ -3,7 +3,7 @@ use Rattle.std.proofs.Common.{◌≡◌, ℕ, ◌+◌, ◌-◌, ◌*◌, ◌/◌
 use native.Mathlib.Nat.{mul-div_cancel_left, sub-zero}
 use Rattle.std.proofs.lemmas.Nat.{div_below, le-div, div-add-mod', mod_below}
 use Rattle.std.proofs.lemmas.List.{take-map, drop-map, get_or-take, get_or-drop, length-take-le, length-drop}
-use Rattle.std.specs.List.{AllByRecursion as All}
+use Rattle.std.specs.List.{AllByRecursion}
 use Rattle.bits.specs.Strings.{Bit}
 use Rattle.mode.specs.declared.air_bit.AirBit.{AirBit}
 use Rattle.mode.specs.declared.fault.PartFault.TheVariants.{Word}
@@ -119,7 +119,7 @@ module _ (m : Mode) (L : Lawful m) (list : List ℕ) (at n : ℕ) (t : There m l
     pub heard_long : length hs ≡ m.copies * total m n
     heard_long = ap length e ∙ length-deinterleaved m.copies (total m n) (labelled m.map.w 0 bs) ∙ length-labelled m.map.w 0 bs ∙ read_size
 
-    pub heard_bits : All Bit (bits_of hs)
+    pub heard_bits : AllByRecursion Bit (bits_of hs)
     heard_bits = rw heard_as (copies_bits m L n bs t.carried.low (bits_at _ _ bs (count_width m L n) r.bits)).bits
 
     pub heard_room : m.copies * sized m.code (unsents m.code.k n) ≤ length hs

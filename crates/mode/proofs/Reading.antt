@@ -1,6 +1,6 @@
 -- Reading one symbol after the other: where so many are read, and the first that cannot be.
 use Rattle.std.proofs.Common.{◌≡◌, ℕ, suc, ◌+◌, ◌-◌, ◌*◌, ◌<◌, ◌≤◌, List, [], ◌∷◌, ◌++◌, length, get_or, take, drop, Err, sym, ap, ◌∙◌, inl, inr, arith}
-use Rattle.std.specs.List.{AllByRecursion as All}
+use Rattle.std.specs.List.{AllByRecursion}
 use Rattle.std.proofs.lemmas.Bool.{cases_eq}
 use Rattle.std.proofs.lemmas.List.{append-nil, append_assoc, take_all, take_at, drop_at, take_more, length-take-le, length-drop, get_or-take, get_or-drop}
 use Rattle.std.proofs.ByRecursion.{All-append}
@@ -24,7 +24,7 @@ pub record Sofar (f : Map) (list : List ℕ) (at many : ℕ) (bs : List ℕ) (k 
   pub prior : p ≡ get_or list (at + k) 0
   pub fine : (j : ℕ) → j < at + 1 + k → Amiss f list at j → ⊥
   pub known : (j : ℕ) → at ≤ j → j < at + 1 + k → get_or list j 0 < f.q
-  pub bits : All Bit (take a bs)
+  pub bits : AllByRecursion Bit (take a bs)
   pub leads : (es : List ℕ) → stepped f many (get_or list at 0) (take a bs ++ es) ≡ take k (take many (drop (at + 1) list)) ++ stepped f (many - k) p es
 
 module _ (f : Map) (list : List ℕ) (at many : ℕ) where

@@ -1,7 +1,7 @@
 -- The symbols that a chain writes to the front of a buffer.
 use Rattle.std.proofs.Common.{◌≡◌, ℕ, ◌-◌, ◌*◌, ◌≤◌, List, ◌++◌, length, take, drop, sym, refl, ap, ◌∙◌}
 use native.Mathlib.Nat.{sub-zero}
-use Rattle.std.specs.List.{AllByRecursion as All}
+use Rattle.std.specs.List.{AllByRecursion}
 use Rattle.std.proofs.lemmas.List.{length-take-le}
 use Rattle.bits.specs.Strings.{Bit, Bits}
 use Rattle.mode.specs.Modes.{Mode, Lawful, Carried, total, count, air, stepped, sent}
@@ -9,7 +9,7 @@ use Rattle.mode.proofs.Strings.{bits_at}
 use Rattle.mode.proofs.Room.{front_is}
 use Rattle.mode.proofs.Whole.{count_width, air_bits}
 
-module _ (m : Mode) (L : Lawful m) (xs ys : List ℕ) (s t : ℕ) (k : Carried (length xs)) (b : All Bit xs)
+module _ (m : Mode) (L : Lawful m) (xs ys : List ℕ) (s t : ℕ) (k : Carried (length xs)) (b : AllByRecursion Bit xs)
     (se : s ≡ m.copies) (te : t ≡ total m (length xs)) (ae : ys ≡ air m xs) where
   whole : Bits (m.copies * total m (length xs)) (air m xs)
   whole = air_bits m L (length xs) xs k.low (record { size = refl; bits = b })

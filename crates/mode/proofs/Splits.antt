@@ -1,6 +1,6 @@
 -- The shares of the words come to the bits that are carried.
 use Rattle.std.proofs.Common.{◌≡◌, ℕ, zero, suc, ◌+◌, ◌-◌, ◌*◌, ◌/◌, ◌%◌, ◌<◌, ◌≤◌, cond, ltb, List, [], ◌∷◌, map, length, get_or, drop, sum_by, refl, ap, ◌∙◌, inl, inr, mul-le-mul_left, arith}
-use Rattle.std.specs.List.{range_with_len, AllByRecursion as All}
+use Rattle.std.specs.List.{range_with_len, AllByRecursion}
 use Rattle.std.proofs.lemmas.Bool.{lt-ltb, le-ltb, cases_lt}
 use Rattle.std.proofs.lemmas.Nat.{div-add-mod', mod_below}
 use Rattle.std.proofs.lemmas.List.FromFn.{length-map-range_with_len, get_or-map-range_with_len}
@@ -18,7 +18,7 @@ abbrev missing : List ℕ → ℕ
 missing [] = 0
 missing (u ∷ us) = u + missing us
 
-carried_missing : (k : ℕ) (us : List ℕ) → All (λ u. u ≤ k) us → carried k us + missing us ≡ length us * k
+carried_missing : (k : ℕ) (us : List ℕ) → AllByRecursion (λ u. u ≤ k) us → carried k us + missing us ≡ length us * k
 carried_missing k [] h = omega arith
 carried_missing k (u ∷ us) h = let l : u ≤ k = h.0 in omega (arith, carried_missing k us h.1)
 
@@ -60,7 +60,7 @@ words_room k n p =
     let m = mod_below (n + (k - 1)) k p in
     (omega arith, omega arith)
 
-all_of : (P : ℕ → Type 0) (f : ℕ → ℕ) → ((i : ℕ) → P (f i)) → (xs : List ℕ) → All P (map f xs)
+all_of : (P : ℕ → Type 0) (f : ℕ → ℕ) → ((i : ℕ) → P (f i)) → (xs : List ℕ) → AllByRecursion P (map f xs)
 all_of P f h [] = tt
 all_of P f h (x ∷ xs) = (h x, all_of P f h xs)
 
@@ -73,7 +73,7 @@ unfolding unsents
 get_or-unsents k n i l = get_or-map-range_with_len (unsent k n) 0 (words k n) i i 0 l (omega arith)
 
 -- by the count of words
-below_at : (k n c : ℕ) → 0 < k → c * k < n + k → n ≤ c * k → All (λ u. u < k) (map (spare c (c * k - n)) (range_with_len 0 c))
+below_at : (k n c : ℕ) → 0 < k → c * k < n + k → n ≤ c * k → AllByRecursion (λ u. u < k) (map (spare c (c * k - n)) (range_with_len 0 c))
 below_at k n zero p h g = tt
 below_at k n (suc c) p h g = all_of (λ u. u < k) (spare (suc c) (suc c * k - n)) (λ i. omega (arith, spare-le (suc c) (suc c * k - n) i (omega arith))) (range_with_len 0 (suc c))
 
@@ -82,7 +82,7 @@ missing_at k n zero g = omega arith
 missing_at k n (suc c) g = omega (arith, missing_spare (suc c) (suc c * k - n) (omega arith))
 
 -- each word has a bit that is sent
-pub unsents_below : (k n : ℕ) → 0 < k → All (λ u. u < k) (unsents k n)
+pub unsents_below : (k n : ℕ) → 0 < k → AllByRecursion (λ u. u < k) (unsents k n)
 unfolding unsents unsent
 unsents_below k n p = let r = words_room k n p in below_at k n (words k n) p r.1 r.0
 
@@ -94,7 +94,7 @@ pub carried-unsents : (k n : ℕ) → 0 < k → carried k (unsents k n) ≡ n
 unfolding unsents unsent
 carried-unsents k n p =
     let r = words_room k n p in
-    let a : All (λ u. u ≤ k) (unsents k n) = All-weaker (λ u. u < k) (λ u. u ≤ k) (λ u h. omega arith) (unsents k n) (unsents_below k n p) in
+    let a : AllByRecursion (λ u. u ≤ k) (unsents k n) = All-weaker (λ u. u < k) (λ u. u ≤ k) (λ u h. omega arith) (unsents k n) (unsents_below k n p) in
     omega (arith, carried_missing k (unsents k n) a, missing_at k n (words k n) r.0, ap (λ c. c * k) (length-unsents k n))
 
 carried-sum : (k : ℕ) (us : List ℕ) → sum_by (λ u. k - u) us ≡ carried k us

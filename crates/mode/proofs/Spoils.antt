@@ -1,7 +1,7 @@
 -- Where two words differ, the copies spoil one of them: so copies are within reach of one message only. A bit that is
 -- not spoilt is decided rightly.
 use Rattle.std.proofs.Common.{◌≡◌, ℕ, zero, suc, ◌+◌, ◌*◌, ◌<◌, ◌≤◌, cond, eqb, leb, List, [], ◌∷◌, ◌++◌, length, get_or, take, drop, replicate, sym, refl, ap, ◌∙◌, inl, inr, arith}
-use Rattle.std.specs.List.{AllByRecursion as All}
+use Rattle.std.specs.List.{AllByRecursion}
 use Rattle.std.proofs.lemmas.List.{length-take-le, length-drop, length-append, length-replicate, append_assoc, take_at, drop_at, take-append-le, drop-append-le}
 use Rattle.std.proofs.ByRecursion.{All-take, All-drop, All-append, All-get_or}
 use Rattle.std.proofs.lemmas.Bool.{eq-eqb, ne_eqb, cases_eq, le-leb, lt-leb, lt-ltb, le-ltb, cases_lt}
@@ -14,14 +14,14 @@ pub differing-le : (b : ℕ) (xs : List ℕ) → differing b xs ≤ length xs
 differing-le b [] = omega arith
 differing-le b (x ∷ xs) = let h = differing-le b xs in grind (arith, cases_eq b x, eq-eqb, ne_eqb)
 
-pub differing_both : (a b : ℕ) (ys : List ℕ) → Bit a → Bit b → (a ≡ b → ⊥) → All Bit ys → differing a ys + differing b ys ≡ length ys
+pub differing_both : (a b : ℕ) (ys : List ℕ) → Bit a → Bit b → (a ≡ b → ⊥) → AllByRecursion Bit ys → differing a ys + differing b ys ≡ length ys
 differing_both a b [] x y n h = refl
 differing_both a b (c ∷ ys) x y n h =
     let ih = differing_both a b ys x y n h.1 in
     let k : c < 2 = h.0 in
     grind (arith, cases_eq a c, cases_eq b c, eq-eqb, ne_eqb)
 
-pub distance-spoilt : (s : ℕ) (us vs ys : List ℕ) → length us ≡ length vs → All Bit us → All Bit vs → All Bit ys → s * length us ≤ length ys → distance us vs ≤ spoilt s us ys + spoilt s vs ys
+pub distance-spoilt : (s : ℕ) (us vs ys : List ℕ) → length us ≡ length vs → AllByRecursion Bit us → AllByRecursion Bit vs → AllByRecursion Bit ys → s * length us ≤ length ys → distance us vs ≤ spoilt s us ys + spoilt s vs ys
 distance-spoilt s [] vs ys e a b c h = omega arith
 distance-spoilt s (u ∷ us) [] ys e a b c h = omega arith
 distance-spoilt s (u ∷ us) (v ∷ vs) ys e a b c h =
@@ -29,7 +29,7 @@ distance-spoilt s (u ∷ us) (v ∷ vs) ys e a b c h =
     let ih = distance-spoilt s us vs (drop s ys) (omega arith) a.1 b.1 (All-drop Bit s ys c) (simp length-drop (omega arith)) in
     omega (arith, one s u v (take s ys) a.0 b.0 (All-take Bit s ys c) (length-take-le s ys (omega arith)), ih)
   where
-    one : (s u v : ℕ) (ys : List ℕ) → Bit u → Bit v → All Bit ys → length ys ≡ s → cond (eqb u v) 0 1 ≤ cond (leb s (2 * differing u ys)) 1 0 + cond (leb s (2 * differing v ys)) 1 0
+    one : (s u v : ℕ) (ys : List ℕ) → Bit u → Bit v → AllByRecursion Bit ys → length ys ≡ s → cond (eqb u v) 0 1 ≤ cond (leb s (2 * differing u ys)) 1 0 + cond (leb s (2 * differing v ys)) 1 0
     one s u v ys p q r e = elim (cases_eq u v) [
       | inl x ↦ rw (eq-eqb u v x) (omega arith)
       | inr x ↦ let d = differing_both u v ys p q x r in grind (arith, le-leb)
@@ -41,7 +41,7 @@ word_bits c m s b =
     record { size = simp length-append (omega arith); bits = All-append Bit m (c.parity m) b.bits k.bits }
 
 -- copies are within reach of one message only
-pub one_message : (c : Code) (s : ℕ) (m n ys : List ℕ) → Lawful c → Bits c.k m → Bits c.k n → All Bit ys
+pub one_message : (c : Code) (s : ℕ) (m n ys : List ℕ) → Lawful c → Bits c.k m → Bits c.k n → AllByRecursion Bit ys
     → s * (c.k + c.p) ≤ length ys → spoilt s (word c m) ys ≤ c.t → spoilt s (word c n) ys ≤ c.t → m ≡ n
 one_message c s m n ys k a b h l p q = elim (cases_list m n) [
   | inl e ↦ e
@@ -77,16 +77,16 @@ spread-append s (x ∷ xs) ys = ap (λ zs. replicate s x ++ zs) (spread-append s
 pub spread_bits : (s n : ℕ) (xs : List ℕ) → Bits n xs → Bits (s * n) (spread s xs)
 spread_bits s n xs b = record { size = length-spread s xs ∙ ap (λ i. s * i) b.size; bits = all_spread xs b.bits }
   where
-    all_same : (j x : ℕ) → Bit x → All Bit (replicate j x)
+    all_same : (j x : ℕ) → Bit x → AllByRecursion Bit (replicate j x)
     all_same zero x h = tt
     all_same (suc j) x h = (h, all_same j x h)
 
-    all_spread : (xs : List ℕ) → All Bit xs → All Bit (spread s xs)
+    all_spread : (xs : List ℕ) → AllByRecursion Bit xs → AllByRecursion Bit (spread s xs)
     all_spread [] h = tt
     all_spread (x ∷ xs) h = All-append Bit (replicate s x) (spread s xs) (all_same s x h.0) (all_spread xs h.1)
 
 -- what most copies say: below 2, and the bit itself if less than half of the copies differ from it
-pub majority_bit : (xs : List ℕ) → 0 < length xs → All Bit xs → Bit (majority xs)
+pub majority_bit : (xs : List ℕ) → 0 < length xs → AllByRecursion Bit xs → Bit (majority xs)
 majority_bit xs p h =
     let b : get_or xs 0 0 < 2 = All-get_or Bit xs 0 0 p h in
     elim (cases_lt (length xs) (2 * differing (get_or xs 0 0) xs)) [
@@ -94,7 +94,7 @@ majority_bit xs p h =
       | inr l ↦ rw (le-ltb (length xs) (2 * differing (get_or xs 0 0) xs) l) (omega arith)
     ]
 
-pub majority_right : (b : ℕ) (xs : List ℕ) → 0 < length xs → Bit b → All Bit xs → 2 * differing b xs < length xs → majority xs ≡ b
+pub majority_right : (b : ℕ) (xs : List ℕ) → 0 < length xs → Bit b → AllByRecursion Bit xs → 2 * differing b xs < length xs → majority xs ≡ b
 majority_right b xs p k h l =
     let a : get_or xs 0 0 < 2 = All-get_or Bit xs 0 0 p h in
     elim (cases_eq (get_or xs 0 0) b) [
@@ -104,7 +104,7 @@ majority_right b xs p k h l =
           rw (lt-ltb (length xs) (2 * differing (get_or xs 0 0) xs) (omega arith)) (omega arith)
     ]
 
-pub decided_bits : (s n : ℕ) (xs : List ℕ) → 0 < s → s * n ≤ length xs → All Bit xs → Bits n (decided s n xs)
+pub decided_bits : (s n : ℕ) (xs : List ℕ) → 0 < s → s * n ≤ length xs → AllByRecursion Bit xs → Bits n (decided s n xs)
 decided_bits s zero xs p l h = record { size = refl; bits = tt }
 decided_bits s (suc n) xs p l h =
     let m : s + s * n ≤ length xs = omega arith in
@@ -113,7 +113,7 @@ decided_bits s (suc n) xs p l h =
     record { size = ap suc ih.size; bits = (majority_bit (take s xs) (omega arith) (All-take Bit s xs h), ih.bits) }
 
 -- the decided bits differ from a word in no more places than it has spoilt bits
-pub decided_near : (s : ℕ) (ws xs : List ℕ) → 0 < s → s * length ws ≤ length xs → All Bit ws → All Bit xs → distance ws (decided s (length ws) xs) ≤ spoilt s ws xs
+pub decided_near : (s : ℕ) (ws xs : List ℕ) → 0 < s → s * length ws ≤ length xs → AllByRecursion Bit ws → AllByRecursion Bit xs → distance ws (decided s (length ws) xs) ≤ spoilt s ws xs
 decided_near s [] xs p l a h = omega arith
 decided_near s (b ∷ bs) xs p l a h =
     let m : s + s * length bs ≤ length xs = omega arith in
@@ -121,7 +121,7 @@ decided_near s (b ∷ bs) xs p l a h =
     let ih = decided_near s bs (drop s xs) p (simp length-drop (omega arith)) a.1 (All-drop Bit s xs h) in
     omega (arith, ih, one a.0 (All-take Bit s xs h) e)
   where
-    one : Bit b → All Bit (take s xs) → length (take s xs) ≡ s → cond (eqb b (majority (take s xs))) 0 1 ≤ cond (leb s (2 * differing b (take s xs))) 1 0
+    one : Bit b → AllByRecursion Bit (take s xs) → length (take s xs) ≡ s → cond (eqb b (majority (take s xs))) 0 1 ≤ cond (leb s (2 * differing b (take s xs))) 1 0
     one k r e = elim (cases_lt (2 * differing b (take s xs)) s) [
       | inl q ↦ rw (eq-eqb b (majority (take s xs)) (sym (majority_right b (take s xs) (omega arith) k r (omega arith)))) (omega arith)
       | inr q ↦ rw (le-leb s (2 * differing b (take s xs)) q) (elim (cases_eq b (majority (take s xs))) [

@@ -1,6 +1,6 @@
 -- The symbols that a mapping steps through tell the bits.
 use Rattle.std.proofs.Common.{◌≡◌, ℕ, zero, suc, ◌+◌, ◌*◌, ◌<◌, ◌⊎◌, List, [], ◌∷◌, ◌++◌, length, get_or, take, drop, sym, refl, ap, ◌∙◌, inl, inr, arith}
-use Rattle.std.specs.List.{AllByRecursion as All}
+use Rattle.std.specs.List.{AllByRecursion}
 use Rattle.std.proofs.lemmas.List.{take-append-drop, nil_from_length, take_at, drop_at}
 use Rattle.std.proofs.lemmas.Bool.{cases_eq}
 use Rattle.bits.specs.Strings.{Bits}
@@ -37,7 +37,7 @@ module _ (f : Map) (r : Lawful f) where
       let last : drop w bs ≡ drop w cs = stepped_same n (f.next p (take w bs)) (drop w bs) (drop w cs) (r.below p (take w bs) q (front n bs b)) (rest n bs b) (rest n cs c) (cc) in
       sym (take-append-drop w bs) ∙ cc (first, last) ∙ take-append-drop w cs
 
-  pub stepped_below : (n p : ℕ) (bs : List ℕ) → p < f.q → Bits (n * f.w) bs → All (λ s. s < f.q) (stepped f n p bs)
+  pub stepped_below : (n p : ℕ) (bs : List ℕ) → p < f.q → Bits (n * f.w) bs → AllByRecursion (λ s. s < f.q) (stepped f n p bs)
   stepped_below zero p bs q b = tt
   stepped_below (suc n) p bs q b =
       let one = r.below p (take f.w bs) q (front n bs b) in

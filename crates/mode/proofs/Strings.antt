@@ -1,6 +1,6 @@
 -- Strings of bits and their parts.
 use Rattle.std.proofs.Common.{◌≡◌, ℕ, ◌+◌, ◌-◌, ◌≤◌, ◌⊎◌, List, [], ◌∷◌, ◌++◌, length, take, drop, refl, inl, inr, arith}
-use Rattle.std.specs.List.{AllByRecursion as All}
+use Rattle.std.specs.List.{AllByRecursion}
 use Rattle.std.proofs.lemmas.List.{length-take, length-take-le, length-drop, length-append}
 use Rattle.std.proofs.ByRecursion.{All-take, All-drop, All-append}
 use Rattle.std.proofs.lemmas.Bool.{cases_eq, cases_lt}
@@ -25,7 +25,7 @@ append_bits i j xs ys a b =
 pub length_part : {A : Type 0} (a y : ℕ) (xs : List A) → a + y ≤ length xs → length (take (a + y - a) (drop a xs)) ≡ y
 length_part a y xs l = simp (length-take, length-drop) (omega arith)
 
-pub part_bits : (a y m : ℕ) (xs : List ℕ) → a + y ≤ length xs → y ≡ m → All Bit xs → Bits m (take (a + y - a) (drop a xs))
+pub part_bits : (a y m : ℕ) (xs : List ℕ) → a + y ≤ length xs → y ≡ m → AllByRecursion Bit xs → Bits m (take (a + y - a) (drop a xs))
 part_bits a y m xs l e b =
     bits_at y m _ e (record { size = length_part a y xs l; bits = All-take Bit (a + y - a) (drop a xs) (All-drop Bit a xs b) })
 

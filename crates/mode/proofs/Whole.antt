@@ -2,7 +2,7 @@
 use Rattle.std.proofs.Common.{◌≡◌, ℕ, ◌+◌, ◌-◌, ◌*◌, ◌/◌, ◌%◌, ◌<◌, ◌≤◌, ◌⊎◌, List, [], ◌∷◌, ◌++◌, length, take, drop, replicate, sym, refl, ap, ◌∙◌, inl, inr, mod-eq_of_lt, mul-le-mul_left, mul-div_cancel, arith}
 use native.Mathlib.Nat.{mod_self, sub-zero}
 use Rattle.std.proofs.lemmas.Bool.{cases_eq}
-use Rattle.std.specs.List.{AllByRecursion as All}
+use Rattle.std.specs.List.{AllByRecursion}
 use Rattle.std.proofs.lemmas.List.{length-drop, length-replicate, take-append-drop, nil_from_length, append_assoc, drop_at}
 use Rattle.std.proofs.ByRecursion.{All-drop, All-get_or, All-from_get_or}
 use Rattle.std.proofs.lemmas.Nat.{div-add-mod', mod_below}
@@ -22,8 +22,8 @@ use Rattle.mode.proofs.Strings.{take_bits, drop_bits, bits_at, append_bits}
 use Rattle.mode.proofs.Splits.{carried, unsents_below, carried-unsents, length-unsents}
 
 -- words within reach of the same copies carry the same bits
-pub within_one : (c : Code) (s : ℕ) (us xs ys es : List ℕ) → codes.Lawful c → All (λ u. u < c.k) us → Bits (carried c.k us) xs → Bits (carried c.k us) ys
-    → All Bit es → s * sized c us ≤ length es → Within c s us xs es → Within c s us ys es → xs ≡ ys
+pub within_one : (c : Code) (s : ℕ) (us xs ys es : List ℕ) → codes.Lawful c → AllByRecursion (λ u. u < c.k) us → Bits (carried c.k us) xs → Bits (carried c.k us) ys
+    → AllByRecursion Bit es → s * sized c us ≤ length es → Within c s us xs es → Within c s us ys es → xs ≡ ys
 within_one c s [] xs ys es k l a b h g p q = nil_from_length xs a.size ∙ sym (nil_from_length ys b.size)
 within_one c s (u ∷ us) xs ys es k l a b h g p q =
     let n = c.k - u in
@@ -67,7 +67,7 @@ pub next_word : (c : Code) (u : ℕ) (us xs : List ℕ) → codes.Lawful c → u
     → Bits (c.k - u + c.p) (word (shortened c u) (take (c.k - u) xs))
 next_word c u us xs k l b = word_bits (shortened c u) (take (c.k - u) xs) (shortened_lawful c k u l) (take_bits (c.k - u) (carried c.k us) xs b)
 
-pub coded_bits : (c : Code) (us xs : List ℕ) → codes.Lawful c → All (λ u. u < c.k) us → Bits (carried c.k us) xs → Bits (sized c us) (coded c us xs)
+pub coded_bits : (c : Code) (us xs : List ℕ) → codes.Lawful c → AllByRecursion (λ u. u < c.k) us → Bits (carried c.k us) xs → Bits (sized c us) (coded c us xs)
 coded_bits c [] xs k l b = record { size = refl; bits = tt }
 coded_bits c (u ∷ us) xs k l b =
     append_bits (c.k - u + c.p) (sized c us) (word (shortened c u) (take (c.k - u) xs)) (coded c us (drop (c.k - u) xs))
@@ -75,7 +75,7 @@ coded_bits c (u ∷ us) xs k l b =
     (coded_bits c us (drop (c.k - u) xs) k l.1 (drop_bits (c.k - u) (carried c.k us) xs b))
 
 -- clean copies spoil no bit of any word
-spoilt_clean : (c : Code) (s : ℕ) (us xs es : List ℕ) → codes.Lawful c → 0 < s → All (λ u. u < c.k) us → Bits (carried c.k us) xs
+spoilt_clean : (c : Code) (s : ℕ) (us xs es : List ℕ) → codes.Lawful c → 0 < s → AllByRecursion (λ u. u < c.k) us → Bits (carried c.k us) xs
     → (Within c s us xs (spread s (coded c us xs) ++ es)) × (spoilt_all c s us xs (spread s (coded c us xs) ++ es) ≡ 0)
 spoilt_clean c s [] xs es k p l b = (tt, refl)
 spoilt_clean c s (u ∷ us) xs es k p l b =

@@ -1,6 +1,6 @@
 -- What the calls of a carrier answer, and what they leave in their buffers.
 use Rattle.std.specs.Prelude.{◌≡◌, ℕ, ◌+◌, ◌<◌, ◌≤◌, List, ◌++◌, length, drop, Ok, Err, Result}
-use Rattle.std.specs.List.{AllByRecursion as All}
+use Rattle.std.specs.List.{AllByRecursion}
 use Rattle.bits.specs.declared.bad_call.BadCall.{BadCall}
 use Rattle.bits.specs.Strings.{Bit}
 use Rattle.mapping.specs.Maps.{Map}
@@ -20,7 +20,7 @@ Counts m n (Err e) = Carried n → ⊥
 -- bits that a mode sends after the prior symbol, and a buffer that holds their symbols
 pub record Sendable (m : Mode) (prior : ℕ) (xs buffer : List ℕ) : Type 0 where
   pub carried : Carried (length xs)
-  pub bits : All Bit xs
+  pub bits : AllByRecursion Bit xs
   pub known : prior < m.map.q
   pub room : count m (length xs) ≤ length buffer
 

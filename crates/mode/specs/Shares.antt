@@ -1,6 +1,6 @@
 -- How the bits of a part are shared out among words, when a word of the code has room for k message bits.
 use Rattle.std.specs.Prelude.{◌≡◌, ℕ, ◌+◌, ◌-◌, ◌*◌, ◌/◌, ◌%◌, ◌<◌, ◌≤◌, cond, List, map, length, Ok, Err, sum_by, Result, nat_lt}
-use Rattle.std.specs.List.{range_with_len, AllByRecursion as All}
+use Rattle.std.specs.List.{range_with_len, AllByRecursion}
 use Rattle.bits.specs.declared.bad_call.BadCall.{BadCall}
 
 -- how many words n bits take: n / k, rounded up
@@ -35,7 +35,7 @@ Shares word k n (Err e) = Shared word k n → ⊥
 -- what the shares of all words come to
 pub record SharesOut (k n : ℕ) : Type 0 where
   pub each : length (unsents k n) ≡ words k n
-  pub some : All (λ u. u < k) (unsents k n)
+  pub some : AllByRecursion (λ u. u < k) (unsents k n)
   pub sum : sum_by (λ u. k - u) (unsents k n) ≡ n
 
 -- the messages of all words are the bits that are carried, and none is empty

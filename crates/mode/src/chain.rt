@@ -1,6 +1,6 @@
 // A mode: a code, a count of copies and a mapping.
 ghost use Rattle.std.specs.Prelude.{◌≡◌, ◌*◌, length};
-ghost use Rattle.std.specs.List.{AllByRecursion as All};
+ghost use Rattle.std.specs.List.{AllByRecursion};
 ghost use Rattle.bits.specs.Strings.{Bit};
 ghost use Rattle.mode.specs.Modes.{Carried, plain as plain_of, total as total_of, count as count_of, padded as padded_of, air as air_of};
 ghost use Rattle.mode.specs.Parts.{There};
@@ -86,7 +86,7 @@ impl<C: RoomyCode, M: Mapping> Chain<C, M> {
     // Writes the words that carry the bits, and the zeros after them.
     fn write_coded(&self, bits: &[u8], coded: &mut [u8])
         requires carried { Carried (length bits.now) }
-        requires bits { All Bit bits.now }
+        requires bits { AllByRecursion Bit bits.now }
         requires room { length coded.old ≡ total_of (chained (C.BlockCode.code self.now.code) self.now.copies M.Mapping.map) (length bits.now) }
         ensures { coded.new ≡ padded_of (chained (C.BlockCode.code self.now.code) self.now.copies M.Mapping.map) bits.now }
     {
@@ -98,7 +98,7 @@ impl<C: RoomyCode, M: Mapping> Chain<C, M> {
     // Writes the copies of the coded bits in the order in which they go out.
     fn write_air(&self, bits: &[u8], air: &mut [u8])
         requires carried { Carried (length bits.now) }
-        requires bits { All Bit bits.now }
+        requires bits { AllByRecursion Bit bits.now }
         requires room { length air.old ≡ copy_count self.now.copies * total_of (chained (C.BlockCode.code self.now.code) self.now.copies M.Mapping.map) (length bits.now) }
         ensures { air.new ≡ air_of (chained (C.BlockCode.code self.now.code) self.now.copies M.Mapping.map) bits.now }
     {

@@ -1,7 +1,7 @@
 // From symbols to bits, step by step.
 ghost use Rattle.std.specs.Prelude.{◌≡◌, ◌+◌, ◌-◌, ◌*◌, ◌/◌, ◌<◌, ◌≤◌, length};
 ghost use Rattle.mode.specs.Orders.{Copied, deinterleaved};
-ghost use Rattle.std.specs.List.{AllByRecursion as All};
+ghost use Rattle.std.specs.List.{AllByRecursion};
 ghost use Rattle.bits.specs.Strings.{Bit};
 ghost use Rattle.mode.specs.Copying.{differing as differing_of, majority, decided, spoilt as spoilt_of};
 ghost use Rattle.mode.specs.Heard.{labelled, bits_of, Lowest};
@@ -146,7 +146,7 @@ fn differing(bit: u8, copies: &[AirBit]) -> usize
 // The bit that most of the copies say. A tie goes to the first copy.
 fn decide(copies: &[AirBit]) -> u8
     requires some { 0 < length copies.now }
-    requires bits { All Bit (bits_of copies.now) }
+    requires bits { AllByRecursion Bit (bits_of copies.now) }
     ensures { result ≡ majority (bits_of copies.now) }
 {
     let first = copies[0].bit;
@@ -161,7 +161,7 @@ fn decide(copies: &[AirBit]) -> u8
 // Decides the bits of a word.
 fn decide_word(copies: usize, heard: &[AirBit], word: &mut [u8])
     requires several { 0 < copies }
-    requires bits { All Bit (bits_of heard.now) }
+    requires bits { AllByRecursion Bit (bits_of heard.now) }
     requires room { length heard.now ≡ copies * length word.old }
     ensures { word.new ≡ decided copies (length word.old) (bits_of heard.now) }
 {
@@ -214,7 +214,7 @@ fn hear_word<C: BlockCode>(
     word: &mut [u8],
 ) -> Option<usize>
     requires several { 0 < copies }
-    requires bits { All Bit (bits_of heard.now) }
+    requires bits { AllByRecursion Bit (bits_of heard.now) }
     requires size { length word.old ≡ (C.BlockCode.code code.now).k + (C.BlockCode.code code.now).p }
     requires room { length heard.now ≡ copies * length word.old }
     ensures { HearsWord (C.BlockCode.code code.now) copies (bits_of heard.now) word.new result }
@@ -237,7 +237,7 @@ fn hear_message<C: BlockCode>(
 ) -> Option<usize>
     requires short { unsent < (C.BlockCode.code code.now).k }
     requires several { 0 < copies }
-    requires bits { All Bit (bits_of heard.now) }
+    requires bits { AllByRecursion Bit (bits_of heard.now) }
     requires size { length message.old ≡ (C.BlockCode.code code.now).k - unsent }
     requires room { length heard.now ≡ copies * (length message.old + (C.BlockCode.code code.now).p) }
     ensures { HearsMessage (shortened (C.BlockCode.code code.now) unsent) copies (bits_of heard.now) message.new result }
@@ -265,7 +265,7 @@ pub(crate) fn hear_words<C: BlockCode>(
 ) -> Result<usize, u16>
     requires carried { Carried (length bits.old) }
     requires several { 0 < copies }
-    requires heard_bits { All Bit (bits_of heard.now) }
+    requires heard_bits { AllByRecursion Bit (bits_of heard.now) }
     requires room { copies * sized (C.BlockCode.code code.now) (unsents (C.BlockCode.code code.now).k (length bits.old)) ≤ length heard.now }
     ensures { HearsWords (C.BlockCode.code code.now) copies heard.now (length bits.old) bits.new result }
 {

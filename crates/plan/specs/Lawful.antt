@@ -1,7 +1,7 @@
 -- The plan of every band is lawful.
 use Rattle.std.specs.Prelude.{◌≡◌, ℕ, zero, suc, ◌<◌, List, [], ◌∷◌, Some, None, Option, slice_index_or, refl}
 use Rattle.std.proofs.Common.{subst, ◌∙◌, arith}
-use Rattle.std.specs.List.{AllByRecursion as All}
+use Rattle.std.specs.List.{AllByRecursion}
 use Rattle.std.proofs.ByRecursion.{All-append}
 use Rattle.std.proofs.lemmas.List.{length-append}
 use Rattle.bits.specs.Strings.{Bit, Bits}
@@ -44,7 +44,7 @@ abbrev Sound : ℕ → Option Mode → Type 0
 Sound q None = Unit {0}
 Sound q (Some m) = modes.Lawful m × (m.map.q ≡ q)
 
-sound_at : (q : ℕ) (ms : List (Option Mode)) → All (Sound q) ms → (r : ℕ) → Sound q (slice_index_or ms r None)
+sound_at : (q : ℕ) (ms : List (Option Mode)) → AllByRecursion (Sound q) ms → (r : ℕ) → Sound q (slice_index_or ms r None)
 sound_at q [] h r = tt
 sound_at q (m ∷ ms) h zero = h.0
 sound_at q (m ∷ ms) h (suc r) = sound_at q ms h.1 r
@@ -66,7 +66,7 @@ bch s f = chain_lawful bch63 s f bch63_lawful (omega arith)
 
 planned_lawful :
     (last : ℕ) (header : Mode) (start : ℕ) (rates : List (Option Mode)) → modes.Lawful header → header.map.w ≡ 1
-    → start < header.map.q → All (Sound header.map.q) rates → Lawful (planned last header start rates)
+    → start < header.map.q → AllByRecursion (Sound header.map.q) rates → Lawful (planned last header start rates)
 planned_lawful last header start rates h w s all =
     record {
       header = h;

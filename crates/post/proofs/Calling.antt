@@ -1,6 +1,6 @@
 -- What calls of the layers below leave, where they cannot be refused.
 use Rattle.std.proofs.Common.{◌≡◌, ℕ, ◌*◌, ◌<◌, ◌≤◌, List, ◌++◌, length, Ok, Err, Result, sym, ap, ◌∙◌, subst, arith}
-use Rattle.std.specs.List.{AllByRecursion as All}
+use Rattle.std.specs.List.{AllByRecursion}
 use Rattle.std.proofs.lemmas.List.{drop_all, append-nil}
 use Rattle.bits.specs.Strings.{Bit}
 use Rattle.bits.specs.declared.bad_call.BadCall.{BadCall}
@@ -40,7 +40,7 @@ header_sent f F x m prior bits before after r a s k l e w =
     part_sent m prior bits before after r
     (record {
       carried = subst Carried (sym z) s;
-      bits = subst (All Bit) (sym e) b.bits;
+      bits = subst (AllByRecursion Bit) (sym e) b.bits;
       known = k;
       room = subst (λ n. count m n ≤ length before) (sym z) (omega arith);
     })
@@ -55,7 +55,7 @@ payload_sent seed psdu m prior bits before after r s k l e w =
     part_sent m prior bits before after r
     (record {
       carried = subst Carried (sym z) s;
-      bits = subst (All Bit) (sym e) b.bits;
+      bits = subst (AllByRecursion Bit) (sym e) b.bits;
       known = k;
       room = subst (λ n. count m n ≤ length before) (sym z) (omega arith);
     })

@@ -1,7 +1,7 @@
 -- A frame in its places: what the three parts leave, and the symbols between them.
 use Rattle.std.proofs.Common.{◌≡◌, ℕ, zero, suc, ◌-◌, ◌*◌, ◌<◌, ◌≤◌, List, [], ◌∷◌, ◌++◌, length, get_or, take, drop, sym, refl, ap, ◌∙◌, subst, ap₂, arith, length-append, length-drop}
 use borrow.Rule.Slice.PartMut.{put_mid}
-use Rattle.std.specs.List.{AllByRecursion as All}
+use Rattle.std.specs.List.{AllByRecursion}
 use Rattle.std.proofs.lemmas.List.{take_at, drop_at, drop_all, append-nil, append_assoc, length-take-le}
 use Rattle.bits.specs.Strings.{Bits}
 use Rattle.frame.specs.Headers.{Fields, Form, InRange, header}
@@ -42,7 +42,7 @@ module _ (f : Form) (F : forms.Lawful f) (m n : Mode) (M : modes.Lawful m) (N : 
     a_below : last_of start a < m.map.q
     a_below =
         last_below m.map.q start a W.start_known
-        (subst (All (λ s. s < m.map.q)) (sym a_is)
+        (subst (AllByRecursion (λ s. s < m.map.q)) (sym a_is)
         (stepped_below m.map M.map 90 start pre W.start_known
         (record { size = W.bits.size ∙ ap (λ w. 90 * w) (sym W.one); bits = W.bits.bits })))
 
@@ -89,7 +89,7 @@ module _ (f : Form) (F : forms.Lawful f) (m n : Mode) (M : modes.Lawful m) (N : 
           subst (λ s. s < n.map.q) (sym second_prior)
           (subst (λ q. last_of (last_of start a) b < q) (sym W.shared)
           (last_below m.map.q (last_of start a) b a_below
-          (subst (All (λ s. s < m.map.q)) (sym b_is) (sent_below m M (forms.count f) (last_of start a) (header f x) said W.few.low a_below))))
+          (subst (AllByRecursion (λ s. s < m.map.q)) (sym b_is) (sent_below m M (forms.count f) (last_of start a) (header f x) said W.few.low a_below))))
 
       rest_b : drop head (put_mid 90 (head - 90) (a ++ drop 90 S) b) ≡ drop (head - 90) (drop 90 S)
       rest_b = ap (drop head) list_is ∙ drop_at (a ++ b) (drop (head - 90) (drop 90 S)) head both

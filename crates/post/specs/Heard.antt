@@ -1,6 +1,6 @@
 -- What the parts of a heard list are read as.
 use Rattle.std.specs.Prelude.{◌≡◌, ℕ, ◌*◌, Bool, List, length, Ok, Err, Result}
-use Rattle.std.specs.List.{AllByRecursion as All}
+use Rattle.std.specs.List.{AllByRecursion}
 use Rattle.frame.specs.declared.fault.FormFault.{FormFault}
 use Rattle.frame.specs.declared.fault.ReadHeaderFault.{ReadHeaderFault}
 use Rattle.frame.specs.declared.fault.ReadHeaderFault.TheVariants.{Call as BadRead, Form as Unformed}
@@ -55,6 +55,6 @@ HeaderReads f m legal list (Err (HeaderForm e)) =
 -- what the payload of a list is read as: the bytes, and the count of spoilt bits, or the fault
 abbrev pub PayloadReads : Mode → ℕ → List ℕ → ℕ → List ℕ → List ℕ → Result ℕ PayloadFault → Type 0
 PayloadReads m seed list at before after (Ok k) =
-    (length after ≡ length before) × All Byte after × Reach m list at (8 * length before) (scrambled seed after) k
+    (length after ≡ length before) × AllByRecursion Byte after × Reach m list at (8 * length before) (scrambled seed after) k
 PayloadReads m seed list at before after (Err (PayloadPart e)) = Faulty m list at (8 * length before) e × (after ≡ before)
 PayloadReads m seed list at before after (Err (Length n)) = ⊥

@@ -1,5 +1,5 @@
 use Rattle.std.proofs.Common.{◌≡◌, ◌*◌, take}
-use Rattle.std.specs.List.{AllByRecursion as All}
+use Rattle.std.specs.List.{AllByRecursion}
 use Rattle.frame.specs.Numbers.{Byte}
 use Rattle.frame.specs.Registers.{Holds}
 use Rattle.frame.specs.Scrambler.{scrambled}
@@ -9,4 +9,4 @@ abbrev pub invariant-loop-i : goal.invariant-loop-i
 invariant-loop-i l =
     Holds l.seed (8 * l.i) l.keystream.register
     × (scrambled l.seed (take l.i l.psdu) ≡ take (8 * l.i) l.bits)
-    × All Byte (take l.i l.psdu)
+    × AllByRecursion Byte (take l.i l.psdu)
