@@ -3,7 +3,7 @@ use lib.Bits.{and_mask}
 use Rattle.std.proofs.lemmas.List.{ext_get_or}
 use Rattle.block_code.specs.Bch.{bits_of}
 use Rattle.block_code.specs.Linear.{length_bits}
-use Rattle.block_code.proofs.Loops.{get_d_bits}
+use Rattle.block_code.proofs.Loops.{get_or-bits_of}
 use Rattle.block_code.proofs.bch63.write_bits.Goals as goal
 
 pub loop-i-preserved : goal.loop-i-preserved
@@ -17,4 +17,4 @@ returns c =
     let r : ℕ = c.args.r in
     let l : length c.loop-i.out ≡ 12 = omega arith in
     ext_get_or 0 c.loop-i.out (bits_of 12 r) (l ∙ sym (length_bits 12 r))
-    (λ k h. c.loop-i.invariant k (omega arith) ∙ sym (get_d_bits 12 r k (omega arith)))
+    (λ k h. c.loop-i.invariant k (omega arith) ∙ sym (get_or-bits_of 12 r k (omega arith)))
