@@ -1,2 +1,3 @@
 pub mod Strings
 pub mod Refusals
+pub mod Numbers

@@ -3,9 +3,11 @@
 
 pub mod bad_call;
 
-ghost use Rattle.std.specs.Prelude.{◌≡◌, Decides};
+ghost use Rattle.std.specs.Prelude.{◌≡◌, ◌≤◌, Decides, length};
+ghost use Rattle.std.specs.Int.Digits.{number_from_digits};
 ghost use Rattle.std.specs.List.{AllByRecursion};
-ghost use Rattle.bits.specs.Strings.{Bit, Bits};
+ghost use Rattle.std.specs.Result.{OkIff};
+ghost use Rattle.bits.specs.Strings.{Bit, Bits, bits_of};
 ghost use Rattle.bits.specs.Refusals.{number, layer, place};
 
 pub use bad_call::BadCall;
@@ -34,12 +36,7 @@ impl BadCall {
 pub fn are_bits(xs: &[u8]) -> bool
     ensures { Decides result (AllByRecursion Bit xs.now) }
 {
-    for x in xs {
-        if *x > 1 {
-            return false;
-        }
-    }
-    true
+    xs.iter().all(|x| *x <= 1)
 }
 
 // Whether the slice is a string of n bits.
@@ -47,6 +44,31 @@ pub fn is_string(xs: &[u8], n: usize) -> bool
     ensures { Decides result (Bits n xs.now) }
 {
     xs.len() == n && are_bits(xs)
+}
+
+// Fills the places with the low bits of a number, the highest of them first.
+pub fn put_bits(number: u64, places: &mut [u8])
+    ensures { places.new ≡ bits_of (length places.old) number }
+{
+    let count = places.len();
+    for (i, place) in places.iter_mut().enumerate() {
+        let shift = count - 1 - i;
+        let bit = if shift < 64 { number >> shift & 1 } else { 0 };
+        *place = bit as u8;
+    }
+}
+
+// The number that at most 64 bits write, the first bit the highest.
+pub fn number_of(bits: &[u8]) -> Result<u64, BadCall>
+    ensures { OkIff result ((length bits.now ≤ 64) × AllByRecursion Bit bits.now) (number_from_digits 2 bits.now) }
+{
+    if bits.len() > 64 || !are_bits(bits) {
+        return Err(BadCall);
+    }
+    Ok(
+        bits.iter()
+            .fold(0, |number, bit| number << 1 | u64::from(*bit)),
+    )
 }
 
 #[cfg(test)]
@@ -62,6 +84,21 @@ mod tests {
         assert!(rt; is_string(&[0, 1, 1], 3));
         assert!(rt; !is_string(&[0, 1, 1], 4));
         assert!(rt; !is_string(&[0, 2, 1], 3));
+    }
+
+    #[test]
+    fn writes_and_reads_numbers(rt: HostRuntime) {
+        let mut places = [7; 5];
+        put_bits(0b100110, &mut places);
+        assert_eq!(rt; places, [0, 0, 1, 1, 0]);
+        assert_eq!(rt; number_of(&places), Ok(6));
+        assert_eq!(rt; number_of(&[]), Ok(0));
+        assert_eq!(rt; number_of(&[1, 2]), Err(BadCall));
+        let mut long = [7; 66];
+        put_bits(u64::MAX, &mut long);
+        assert!(rt; long[0] == 0 && long[1] == 0 && long[2] == 1 && long[65] == 1);
+        assert_eq!(rt; number_of(&long), Err(BadCall));
+        assert_eq!(rt; number_of(&long[2..66]), Ok(u64::MAX));
     }
 
     #[test]

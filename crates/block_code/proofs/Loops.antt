@@ -1,10 +1,10 @@
 -- The steps of the loops.
-use Rattle.std.proofs.Common.{◌≡◌, ℕ, zero, suc, ◌+◌, ◌-◌, ◌*◌, ◌/◌, ◌%◌, ◌^◌, ◌<◌, Bool, true, false, ◌&&◌, T, eqb, List, [], ◌∷◌, length, get_or, drop, sym, ap, ◌∙◌, ap₂, arith, eqb→eq, length-drop}
+use Rattle.std.proofs.Common.{◌≡◌, ℕ, zero, suc, ◌+◌, ◌-◌, ◌*◌, ◌/◌, ◌%◌, ◌<◌, Bool, true, false, ◌&&◌, T, eqb, List, [], ◌∷◌, length, get_or, drop, sym, ap, ◌∙◌, ap₂, arith, eqb→eq, length-drop}
 use lib.Bits.{bit_xor, xor_assoc, xor_zero_r, xor_lt, bit_and, and_mask}
 use Rattle.std.proofs.lemmas.List.{at_drop_more}
 use Rattle.std.specs.List.{AllByRecursion}
 use Rattle.bits.specs.Strings.{Bit}
-use Rattle.block_code.specs.Bch.{pick, sum_at, power, times, divided, remainder, bits_of}
+use Rattle.block_code.specs.Bch.{pick, sum_at, power, times, divided, remainder}
 
 -- the list has the powers from i on
 abbrev pub agrees : ℕ → List ℕ → Bool
@@ -69,11 +69,6 @@ divided-lt r b = xor_lt 12 ((2 * r) % 4096) (pick (bit_xor (r / 2048 % 2) b) 133
 
 pub remainder_more : (xs : List ℕ) (i r s : ℕ) → i < length xs → s ≡ divided r (get_or xs i 0) → remainder r (drop i xs) ≡ remainder s (drop (i + 1) xs)
 remainder_more xs i r s h e = at_drop_more (remainder r) xs i 0 h ∙ ap (λ x. remainder x (drop (i + 1) xs)) (sym e)
-
-pub get_or-bits_of : (n r k : ℕ) → k < n → get_or (bits_of n r) k 0 ≡ r / 2 ^ (n - 1 - k) % 2
-get_or-bits_of zero r k h = absurd (omega arith)
-get_or-bits_of (suc n) r zero h = ap (λ m. r / 2 ^ m % 2) (omega arith)
-get_or-bits_of (suc n) r (suc k) h = get_or-bits_of n r k (omega arith) ∙ ap (λ m. r / 2 ^ m % 2) (omega arith)
 
 module _ (r b : ℕ) (h : r < 4096) (k : b < 2) where
   top_is : bit_xor (bit_and (r / 2048) 1) b ≡ bit_xor (r / 2048 % 2) b

@@ -1,7 +1,7 @@
 -- The BCH code 63/51, which corrects two wrong bits of a word.
 use Rattle.std.specs.Prelude.{◌≡◌, ℕ, zero, suc, ◌*◌, ◌/◌, ◌%◌, ◌^◌, ◌<◌, List, [], ◌∷◌, ◌++◌, length, Ok, Err, Result, bit_xor}
 use Rattle.bits.specs.declared.bad_call.BadCall.{BadCall}
-use Rattle.bits.specs.Strings.{Bits}
+use Rattle.bits.specs.Strings.{Bits, bits_of}
 use Rattle.block_code.specs.Codes.{Code, word}
 
 -- c where the bit is set, else 0
@@ -19,11 +19,6 @@ sum_at f (b ∷ w) = bit_xor (pick b (f (length w))) (sum_at f w)
 -- g times the polynomial whose coefficients are the string, that of the highest power first
 abbrev pub product : ℕ → List ℕ → ℕ
 product g q = sum_at (λ i. g * 2 ^ i) q
-
--- the low n bits of a number, the highest first
-abbrev pub bits_of : ℕ → ℕ → List ℕ
-bits_of zero r = []
-bits_of (suc n) r = r / 2 ^ n % 2 ∷ bits_of n r
 
 -- ---- parity
 

@@ -9,7 +9,8 @@ use Rattle.std.specs.List.{AllByRecursion}
 use Rattle.bits.specs.Strings.{Bit, Bits}
 use Rattle.block_code.specs.Codes.{distance, word, Apart, MinimumDistance}
 use Rattle.block_code.specs.Bch.{sum_at, parity, bch63, remainder, divided}
-use Rattle.block_code.specs.Linear.{added, length-added, sum_added, bits_bits}
+use Rattle.block_code.specs.Linear.{added, length-added, sum_added}
+use Rattle.bits.specs.Numbers.{bits_bits}
 use Rattle.block_code.specs.Words.{word-zero, length-parity, xor_same}
 use Rattle.block_code.specs.Distances.{same_from_distance}
 use Rattle.block_code.specs.Places.{places, total, sum-places, Falls, places_fall, length-places}

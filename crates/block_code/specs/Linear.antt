@@ -5,8 +5,9 @@ use Rattle.std.proofs.Math.Nat.{zero-div}
 use Rattle.std.specs.Int.Bits.{xor_assoc, xor_self, xor_zero_r}
 use Rattle.std.proofs.lemmas.Nat.{xor_comm, xor_shr, xor_mod}
 use Rattle.std.specs.List.{AllByRecursion}
-use Rattle.bits.specs.Strings.{Bit}
-use Rattle.block_code.specs.Bch.{pick, sum_at, bits_of}
+use Rattle.bits.specs.Strings.{Bit, bits_of}
+use Rattle.bits.specs.Numbers.{length_bits, bits_bits}
+use Rattle.block_code.specs.Bch.{pick, sum_at}
 
 pub xor_left : (a b c : ℕ) → bit_xor a (bit_xor b c) ≡ bit_xor b (bit_xor a c)
 xor_left a b c = sym (xor_assoc a b c) ∙ ap (λ x. bit_xor x c) (xor_comm a b) ∙ xor_assoc b a c
@@ -74,14 +75,6 @@ pub bits_xor : (n a b : ℕ) → bits_of n (bit_xor a b) ≡ added (bits_of n a)
 bits_xor zero a b = refl
 bits_xor (suc n) a b =
     ap₂ ◌∷◌ (ap (λ x. x % 2) (xor_shr a b n) ∙ xor_mod (a / 2 ^ n) (b / 2 ^ n) 1) (bits_xor n a b)
-
-pub length_bits : (n a : ℕ) → length (bits_of n a) ≡ n
-length_bits zero a = refl
-length_bits (suc n) a = ap suc (length_bits n a)
-
-pub bits_bits : (n a : ℕ) → AllByRecursion Bit (bits_of n a)
-bits_bits zero a = tt
-bits_bits (suc n) a = (omega arith, bits_bits n a)
 
 -- the sum of f over the set bits of a number is linear in the number
 unfoldable pub over : (ℕ → ℕ) → ℕ → ℕ → ℕ

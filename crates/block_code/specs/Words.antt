@@ -4,9 +4,10 @@ use Rattle.std.proofs.Common.{ap, ap₂, sym, ◌∙◌, arith, pow-suc, one-mul
 use Rattle.std.specs.Int.Bits.{xor_assoc, xor_self, xor_zero_r, xor_shifted}
 use Rattle.std.proofs.lemmas.Nat.{shr_high, xor_shr, xor_mod, xor_block}
 use Rattle.std.specs.List.{AllByRecursion}
-use Rattle.bits.specs.Strings.{Bit}
-use Rattle.block_code.specs.Bch.{pick, sum_at, bits_of, remainder, divided, parity, power, times}
-use Rattle.block_code.specs.Linear.{Linear, pick-xor, pick-map, sum-map, sum_same, sum-append, over, over_linear, length_bits, xor_swap}
+use Rattle.bits.specs.Strings.{Bit, bits_of}
+use Rattle.block_code.specs.Bch.{pick, sum_at, remainder, divided, parity, power, times}
+use Rattle.block_code.specs.Linear.{Linear, pick-xor, pick-map, sum-map, sum_same, sum-append, over, over_linear, xor_swap}
+use Rattle.bits.specs.Numbers.{length_bits}
 use Rattle.block_code.specs.Pairs.{both, all_below, at_below}
 
 -- one step of the division at a bit of 0

@@ -1,7 +1,7 @@
-ghost use Rattle.std.specs.Prelude.{◌≡◌, ℕ, ◌<◌, length, MatchOption};
+ghost use Rattle.std.specs.Prelude.{◌≡◌, ℕ, ◌<◌, MatchOption};
 ghost use Rattle.std.specs.List.{AllByRecursion};
 ghost use Rattle.bits.specs.Strings.{Bit, Bits};
-ghost use Rattle.block_code.specs.Bch.{bch63 as the_code, remainder as remainder_of, bits_of, power, cubed, first, third, Fits1, Fits2, Divides, Sums, Vanish, Only};
+ghost use Rattle.block_code.specs.Bch.{bch63 as the_code, remainder as remainder_of, power, cubed, first, third, Fits1, Fits2, Divides, Sums, Vanish, Only};
 ghost use Rattle.block_code.specs.Codes.{MinimumDistance};
 ghost use Rattle.std.proofs.Common.{arith};
 ghost use Rattle.block_code.specs.Words.{length-parity};
@@ -9,7 +9,7 @@ ghost use Rattle.block_code.specs.Distance.{law, bits_parity};
 
 use super::code::BlockCode;
 use super::fault::CorrectFault;
-use bits::{BadCall, is_string};
+use bits::{BadCall, is_string, put_bits};
 
 // The powers of D reduced by 1 + D + D^6, from D^0 to D^62.
 const POWERS: [u8; 63] = [
@@ -80,7 +80,7 @@ impl BlockCode for Bch63 {
         if !is_string(message, 51) || parity.len() != 12 {
             return Err(BadCall);
         }
-        write_bits(remainder(message), parity);
+        put_bits(u64::from(remainder(message)), parity);
         Ok(())
     }
 
@@ -119,16 +119,6 @@ fn remainder(message: &[u8]) -> u16
         }
     }
     r
-}
-
-// Writes the low 12 bits of a number, the highest first.
-fn write_bits(r: u16, out: &mut [u8])
-    requires { length out.old ≡ 12 }
-    ensures { out.new ≡ bits_of 12 r }
-{
-    for i in 0..12 {
-        out[i] = ((r >> (11 - i)) & 1) as u8;
-    }
 }
 
 // D^i, reduced.

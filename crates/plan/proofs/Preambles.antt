@@ -2,8 +2,8 @@
 use Rattle.std.proofs.Common.{◌≡◌, ℕ, List, [], ◌++◌, length, take, drop, ap, ◌∙◌, append-nil, arith}
 use borrow.Rule.Slice.PartMut.{put_mid}
 use Rattle.std.proofs.lemmas.List.{take_at, drop_at, drop_all, length-take-le}
-use Rattle.block_code.specs.Bch.{bits_of}
-use Rattle.block_code.specs.Linear.{length_bits}
+use Rattle.bits.specs.Strings.{bits_of}
+use Rattle.bits.specs.Numbers.{length_bits}
 use Rattle.plan.specs.Bands.{extension, preamble}
 
 -- us are the places of the sequence, zs those of the extension before the second write, and vs after it

@@ -1,6 +1,7 @@
 -- The plans of the seven bands.
 use Rattle.std.specs.Prelude.{◌≡◌, ℕ, ◌<◌, List, [], ◌∷◌, ◌++◌, Some, None, Ok, Err, Option, Result, slice_index_or}
-use Rattle.block_code.specs.Bch.{bch63, bits_of}
+use Rattle.block_code.specs.Bch.{bch63}
+use Rattle.bits.specs.Strings.{bits_of}
 use Rattle.block_code.specs.Plain.{plain}
 use Rattle.mapping.specs.Mappings.{dbpsk, dqpsk, d8psk, gmsk}
 use Rattle.frame.specs.Narrowband.{narrowband}

@@ -4,12 +4,12 @@ use Rattle.std.proofs.Common.{subst, ◌∙◌, arith}
 use Rattle.std.specs.List.{AllByRecursion}
 use Rattle.std.proofs.ByRecursion.{All-append}
 use Rattle.std.proofs.lemmas.List.{length-append}
-use Rattle.bits.specs.Strings.{Bit, Bits}
+use Rattle.bits.specs.Strings.{Bit, Bits, bits_of}
 use Rattle.block_code.specs.Codes.{Code}
 use Rattle.block_code.specs.Codes as codes
-use Rattle.block_code.specs.Bch.{bch63, bits_of}
+use Rattle.block_code.specs.Bch.{bch63}
 use Rattle.block_code.specs.Plain.{plain}
-use Rattle.block_code.specs.Linear.{length_bits, bits_bits}
+use Rattle.bits.specs.Numbers.{length_bits, bits_bits}
 use Rattle.block_code.specs.Words.{length-parity}
 use Rattle.block_code.specs.Distance.{law, bits_parity}
 use Rattle.block_code.specs.Unprotected as plains

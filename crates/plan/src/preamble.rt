@@ -1,7 +1,8 @@
 // The bits of the preambles. The numerals are bit strings, the first bit leftmost.
-ghost use Rattle.std.specs.Prelude.{◌≡◌, ◌%◌, ◌≤◌, length, if◌then◌else◌, nat_eq};
-ghost use Rattle.block_code.specs.Bch.{bits_of};
+ghost use Rattle.std.specs.Prelude.{◌≡◌, ◌%◌, if◌then◌else◌, nat_eq};
 ghost use Rattle.plan.specs.Bands.{first, second, preamble as preamble_from};
+
+use bits::put_bits;
 
 // The first 63 bits on even channels.
 const FIRST: u64 = 0b010101100110111011010010011100010111100101000110000100000111111;
@@ -11,17 +12,6 @@ const SECOND: u64 = 0b0110100010000101100101010010011110000011011100110001110101
 
 // The 27 bits that follow either.
 const EXTENSION: u64 = 0b010101010101101101101101101;
-
-// Fills the places with the lowest bits of a number, the highest of them first.
-fn put_bits(number: u64, places: &mut [u8])
-    requires { length places.old ≤ 64 }
-    ensures { places.new ≡ bits_of (length places.old) number }
-{
-    let count = places.len();
-    for (i, place) in places.iter_mut().enumerate() {
-        *place = (number >> (count - 1 - i) & 1) as u8;
-    }
-}
 
 // The bits of the preamble on a channel.
 pub(crate) fn preamble_bits(channel: u32) -> [u8; 90]

@@ -1,5 +1,6 @@
-use Rattle.std.proofs.Common.{ap, ◌∙◌, arith}
-use Rattle.block_code.specs.Bch.{parity, bits_of}
+use Rattle.std.proofs.Common.{◌≡◌, length, ap₂, ◌∙◌, arith}
+use Rattle.block_code.specs.Bch.{parity}
+use Rattle.bits.specs.Strings.{bits_of}
 use Rattle.block_code.proofs.bch63.Bch63BlockCode.encode.Goals as goal
 
 pub remainder-requires : goal.remainder-requires
@@ -7,4 +8,9 @@ remainder-requires c = (c.is_string.ensures.0 c.if-not-is_string.false).bits
 
 pub returns : goal.returns
 unfolding parity
-returns c = (c.is_string.ensures.0 c.if-not-is_string.false, omega arith, c.write_bits.ensures ∙ ap (bits_of 12) c.remainder.ensures)
+returns c =
+    let twelve : length c.args.parity.now ≡ 12 = omega arith in (
+      c.is_string.ensures.0 c.if-not-is_string.false,
+      twelve,
+      c.put_bits.ensures ∙ ap₂ bits_of twelve (c.from.ensures ∙ c.remainder.ensures),
+    )
