@@ -1,3 +1,4 @@
 pub mod Sequence
 pub mod Scrambling
 pub mod Checking
+pub mod Reading

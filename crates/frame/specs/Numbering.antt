@@ -91,16 +91,3 @@ bit_of_number (x ∷ bs) (suc k) b =
     let l : x < 2 = b.0 in
     let t : (x + 2 * number_of bs) / 2 ≡ number_of bs = omega arith in
     ap (λ m. m % 2) (half_shr (x + 2 * number_of bs) k ∙ ap (λ m. m / 2 ^ k) t) ∙ bit_of_number bs k b.1
-
--- a loop that takes in the bits from the last to the first
-module _ (bs : List ℕ) (i : ℕ) (low : 0 < i) (high : i ≤ length bs) where
-  pub number-drop_more : 2 * number_of (drop i bs) + slice_index bs (i - 1) ≡ number_of (drop (i - 1) bs)
-  number-drop_more =
-      let e : number_of (drop (i - 1) bs) ≡ slice_index bs (i - 1) + 2 * number_of (drop (i - 1 + 1) bs) = at_drop_more number_of bs (i - 1) 0 (omega arith) in
-      let f : number_of (drop (i - 1 + 1) bs) ≡ number_of (drop i bs) = ap (λ m. number_of (drop m bs)) (omega arith) in
-      omega arith
-
-  pub number-drop_below : length bs ≤ 8 → AllByRecursion Bit bs → 2 * number_of (drop i bs) + slice_index bs (i - 1) < 256
-  number-drop_below l h =
-      let k : length (drop (i - 1) bs) ≤ 8 = simp length-drop (omega arith) in
-      omega (arith, number-drop_more, number_few 8 (drop (i - 1) bs) k (All-drop Bit (i - 1) bs h))

@@ -90,14 +90,6 @@ module _ (legal : List Bool) (b : List ℕ) (valid : Bits 19 b) where
 pub narrowband_lawful : Lawful narrowband
 narrowband_lawful = record { sized = sized; read_back = read_back; written_back = λ legal b x v h. written_back legal b v x h }
 
--- what the code compares decides the check
-pub check_decides : (bits check : List ℕ) (r : Bool) → Bits 19 bits → check ≡ hcs (take 15 bits)
-    → Decides r (take 4 (drop 15 bits) ≡ take 4 check) → Decides r (Checked narrowband bits)
-check_decides bits check r b e d =
-    let f : take 4 (drop 15 bits) ≡ drop 15 bits = take_all 4 (drop 15 bits) (omega (arith, (drop_bits 15 4 bits b).size)) in
-    let g : take 4 check ≡ hcs (take 15 bits) = ap (take 4) e ∙ take_all 4 (hcs (take 15 bits)) (omega (arith, (hcs_bits (take 15 bits)).size)) in
-    rw (f, g) at d
-
 -- ---- the code's writes, one after another
 
 module _ (was us vs : List ℕ) (x : Fields) where
@@ -129,9 +121,6 @@ module _ (was us vs : List ℕ) (x : Fields) (long : length was ≡ 19) (first :
   body : InRange narrowband x → take 15 (placed was us vs x) ≡ said x
   body r = ap (take 15) whole ∙ take_at (said x) (drop 15 was) 15 (said_bits x r.burst r.seed).size
 
-  pub body_bits : InRange narrowband x → AllByRecursion Bit (take 15 (placed was us vs x))
-  body_bits r = rw (body r) (said_bits x r.burst r.seed).bits
-
   pub header-written : (check last : List ℕ) → InRange narrowband x → check ≡ hcs (take 15 (placed was us vs x)) → last ≡ check
       → put_mid 15 4 (placed was us vs x) last ≡ header narrowband x
   header-written check last r e f =
@@ -141,42 +130,3 @@ module _ (was us vs : List ℕ) (x : Fields) (long : length was ≡ 19) (first :
       ap (λ ts. take 15 (placed was us vs x) ++ (last ++ ts)) tail
       ∙ ap (λ ts. take 15 (placed was us vs x) ++ ts) (append-nil last ∙ f ∙ e)
       ∙ ap (λ ts. ts ++ hcs ts) (body r)
-
--- ---- what the code reads
-
--- the rate, and the bits after it
-abbrev pub rated : List ℕ → ℕ
-rated bits = slice_index bits 0 + 2 * slice_index bits 1 + 4 * slice_index bits 2
-
-abbrev pub rest_of : List ℕ → List ℕ
-rest_of bits = take (length bits - 3) (drop 3 bits)
-
-rated_is : (bits : List ℕ) → length bits ≡ 19 → rated bits ≡ (fields bits).rate
-unfolding fields
-rated_is bits l =
-    subst (λ us. rated us ≡ number_of (take 3 us)) (sym (fill_by_all (λ i. slice_index bits i) bits 19 0 l (λ k h. refl))) (omega arith)
-
-read_is : (bits : List ℕ) (n : ℕ) → length bits ≡ 19 → n ≡ number_of (take 8 (drop 1 (rest_of bits)))
-    → ◌≡◌ {A = Fields} (record { rate = rated bits; bytes = 9 + n; burst = slice_index (rest_of bits) 10; seed = slice_index (rest_of bits) 11 }) (fields bits)
-unfolding fields
-read_is bits n l e =
-    let same : (P : List ℕ → Type 0) → P (map (λ i. slice_index bits i) (range_with_len 0 19)) → P bits =
-    λ P h. subst P (sym (fill_by_all (λ i. slice_index bits i) bits 19 0 l (λ k h. refl))) h in
-    let r = rated_is bits l in
-    let b : number_of (take 8 (drop 1 (rest_of bits))) ≡ number_of (take 8 (drop 4 bits)) =
-    same (λ us. number_of (take 8 (drop 1 (rest_of us))) ≡ number_of (take 8 (drop 4 us))) refl in
-    let u : slice_index_or (rest_of bits) 10 0 ≡ slice_index_or bits 13 0 = same (λ us. slice_index (rest_of us) 10 ≡ slice_index us 13) refl in
-    let s : slice_index_or (rest_of bits) 11 0 ≡ slice_index_or bits 14 0 = same (λ us. slice_index (rest_of us) 11 ≡ slice_index us 14) refl in
-    λ i. record { rate = r i; bytes = 9 + (e ∙ b) i; burst = u i; seed = s i }
-
-module _ (legal : List Bool) (bits : List ℕ) (valid : Bits 19 bits) (checked : Checked narrowband bits) (clear : Clear narrowband bits) where
-  pub fields_read : (h : Header) → Carried legal (rated bits) → (n : ℕ) → n ≡ number_of (take 8 (drop 1 (rest_of bits)))
-      → h ≡ record { rate = rated bits; bytes = 9 + n; burst = slice_index (rest_of bits) 10; seed = slice_index (rest_of bits) 11 }
-      → Reads narrowband legal bits (Ok h)
-  fields_read h c n e f =
-      (valid, (checked, clear, subst (Carried legal) (rated_is bits valid.size) c, ap fields_of f ∙ read_is bits n valid.size e))
-
-  pub rate_refused : (r : Result Header ReadHeaderFault) (e : FormFault) → (Carried legal (rated bits) → ⊥)
-      → e ≡ Rate (rated bits) → r ≡ Err (Faulty e) → Reads narrowband legal bits r
-  rate_refused r e n f g =
-      subst (Reads narrowband legal bits) (sym (g ∙ ap (λ d. Err (Faulty d)) f)) (valid, (checked, clear, n, rated_is bits valid.size))

@@ -44,8 +44,8 @@ impl FormFault {
     {
         match self {
             FormFault::Check => 0,
-            FormFault::Reserved(place) => *place as u16,
-            FormFault::Rate(rate) => *rate as u16,
+            FormFault::Reserved(place) => u16::from(*place),
+            FormFault::Rate(rate) => u16::from(*rate),
         }
     }
 }

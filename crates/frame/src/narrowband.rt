@@ -18,7 +18,7 @@ use crate::fault::{FormFault, ReadHeaderFault};
 use crate::form::HeaderForm;
 use crate::header::Header;
 use crate::numbers::{number_of, put_low_bits};
-use bits::{BadCall, are_bits};
+use bits::{BadCall, is_string, put_bits};
 
 #[derive(Clone, Copy)]
 pub struct NarrowbandHeader;
@@ -28,26 +28,23 @@ const BITS: usize = 19;
 
 // The check register after one more bit.
 fn shift_in(register: u8, bit: u8) -> u8
-    requires small { register < 16 }
-    requires valid { bit < 2 }
     ensures { result ≡ shifted register bit }
 {
-    let sum = bit ^ register >> 3;
+    let sum = (bit ^ register >> 3) & 1;
     let up = register << 1 & 0b1111;
     if sum == 1 { up ^ 0b0011 } else { up }
 }
 
 // The header check sequence of the bits.
 fn check_sequence(bits: &[u8]) -> [u8; 4]
-    requires { AllByRecursion Bit bits.now }
     ensures { result ≡ hcs bits.now }
 {
-    let mut register = 0b1111;
-    for bit in bits {
-        register = shift_in(register, *bit);
-    }
-    let check = 15 - register;
-    [check >> 3 & 1, check >> 2 & 1, check >> 1 & 1, check & 1]
+    let register = bits
+        .iter()
+        .fold(0b1111, |register, bit| shift_in(register, *bit));
+    let mut check = [0; 4];
+    put_bits(u64::from(15 - register), &mut check);
+    check
 }
 
 // Whether each field is in its range.
@@ -55,8 +52,7 @@ fn in_range(header: &Header) -> bool
     ensures { Decides result (InRange narrowband (fields_of header.now)) }
 {
     header.rate <= 3
-        && header.bytes >= 9
-        && header.bytes <= 264
+        && (9..=264).contains(&header.bytes)
         && header.burst <= 1
         && header.seed <= 1
 }
@@ -67,11 +63,10 @@ fn verify_hcs(bits: &[u8]) -> Result<(), FormFault>
     ensures { MatchResult result (λ _. Checked narrowband bits.now) (λ e. (e ≡ FormFault.Check) × (Checked narrowband bits.now → ⊥)) }
 {
     let check = check_sequence(&bits[0..15]);
-    if bits[15..19] == check[0..4] {
-        Ok(())
-    } else {
-        Err(FormFault::Check)
+    if bits[15..] != check[..] {
+        return Err(FormFault::Check);
     }
+    Ok(())
 }
 
 // Bits 3 and 12 are zero.
@@ -92,10 +87,10 @@ fn verify_reserved(bits: &[u8]) -> Result<(), FormFault>
 fn verify_rate(rate: u8, legal: &[bool; 4]) -> Result<(), FormFault>
     ensures { MatchResult result (λ _. Carried legal.now rate) (λ e. (e ≡ FormFault.Rate rate) × (Carried legal.now rate → ⊥)) }
 {
-    if rate > 3 || !legal[rate as usize] {
-        return Err(FormFault::Rate(rate));
+    match legal.get(usize::from(rate)) {
+        Some(true) => Ok(()),
+        _ => Err(FormFault::Rate(rate)),
     }
-    Ok(())
 }
 
 impl HeaderForm for NarrowbandHeader {
@@ -122,23 +117,21 @@ impl HeaderForm for NarrowbandHeader {
         Ok(())
     }
 
+    #[tactic(auto, unfolding(crate::specs::Narrowband::fields))]
     fn read(&self, bits: &[u8], legal: &[bool; 4]) -> Result<Header, ReadHeaderFault> {
-        let [rate0, rate1, rate2, rest @ ..] = bits else {
-            return Err(ReadHeaderFault::Call(BadCall));
-        };
-        if bits.len() != BITS || !are_bits(bits) {
-            return Err(ReadHeaderFault::Call(BadCall));
+        if !is_string(bits, BITS) {
+            return Err(BadCall.into());
         }
         verify_hcs(bits)?;
         verify_reserved(bits)?;
-        let rate = *rate0 + 2 * *rate1 + 4 * *rate2;
+        let rate = number_of(&bits[0..3]);
         verify_rate(rate, legal)?;
-        let length = number_of(&rest[1..9]);
+        let length = number_of(&bits[4..12]);
         Ok(Header {
             rate,
-            bytes: 9 + length as usize,
-            burst: rest[10],
-            seed: rest[11],
+            bytes: 9 + usize::from(length),
+            burst: bits[13],
+            seed: bits[14],
         })
     }
 }
@@ -215,14 +208,14 @@ mod tests {
 
     #[test]
     fn reads_what_it_wrote(rt: HostRuntime) -> Result<(), Fail> {
-        for rate in 0..4u8 {
+        for rate in 0..4 {
             for bytes in [9, 10, 100, 137, 263, 264] {
-                for marks in 0..4u8 {
+                for (burst, seed) in [(0, 0), (0, 1), (1, 0), (1, 1)] {
                     let header = Header {
                         rate,
                         bytes,
-                        burst: marks / 2,
-                        seed: marks % 2,
+                        burst,
+                        seed,
                     };
                     let mut out = [0; 19];
                     NarrowbandHeader.write(&header, &mut out)?;

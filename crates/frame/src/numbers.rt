@@ -20,21 +20,13 @@ pub(crate) fn number_of(bits: &[u8]) -> u8
     requires valid { AllByRecursion Bit bits.now }
     ensures { result ≡ number_of bits.now }
 {
-    let mut number = 0;
-    for i in (0..bits.len()).rev() {
-        number = 2 * number + bits[i];
-    }
-    number
+    bits.iter().rev().fold(0, |number, bit| number << 1 | bit)
 }
 
 // The last N bits of a numeral, as it is written.
 #[cfg(test)]
-pub(crate) fn unpacked<const N: usize>(numeral: u32) -> [u8; N]
-    requires { N ≤ 32 }
-{
+pub(crate) fn unpacked<const N: usize>(numeral: u64) -> [u8; N] {
     let mut bits = [0; N];
-    for (i, bit) in bits.iter_mut().enumerate() {
-        *bit = (numeral >> (N - 1 - i) & 1) as u8;
-    }
+    bits::put_bits(numeral, &mut bits);
     bits
 }

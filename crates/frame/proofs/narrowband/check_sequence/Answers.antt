@@ -1,16 +1,17 @@
-use Rattle.frame.proofs.Checking.{register_more, register_all, hcs_is}
-use Rattle.frame.specs.Reading.{bit_at}
+use Rattle.std.proofs.Common.{rules, ◌≡◌, ◌-◌, fold, ap, ◌∙◌, lit≤}
+use Rattle.bits.specs.Strings.{bits_of}
+use Rattle.frame.specs.Narrowband.{shifted, hcs}
+use Rattle.frame.proofs.Checking.{register_below, four_bits}
 use Rattle.frame.proofs.narrowband.check_sequence.Goals as goal
 
-pub shift_in-register-requires : goal.shift_in-register-requires
-shift_in-register-requires c = record { small = c.loop-bit.invariant.1; valid = bit_at c.args.bits.now c.loop-bit.bit-index c.requires }
-
-pub loop-bit-preserved : goal.loop-bit-preserved
-loop-bit-preserved c =
-    register_more c.args.bits.now c.loop-bit.bit-index c.loop-bit.register c.shift_in-register.result c.loop-bit-test.true
-    c.loop-bit.invariant.0 c.shift_in-register.ensures
+pub overflow_sub-register : goal.overflow_sub-register
+overflow_sub-register c =
+    let e : c.fold-register.result ≡ fold shifted 15 c.args.bits.now = search rules in
+    rw e (register_below 15 c.args.bits.now (lit≤ tt))
 
 pub returns : goal.returns
+unfolding hcs
 returns c =
-    hcs_is c.args.bits.now c.loop-bit.register
-    (register_all c.args.bits.now c.loop-bit.bit-index c.loop-bit.register c.loop-bit-test.false c.loop-bit.invariant.0)
+    let e : c.fold-register.result ≡ fold shifted 15 c.args.bits.now = search rules in
+    let f : c.put_bits.new.places ≡ bits_of 4 (15 - c.fold-register.result) = search rules in
+    f ∙ ap (λ n. bits_of 4 (15 - n)) e ∙ four_bits _

@@ -1,14 +1,8 @@
 use Rattle.frame.specs.Headers.{InRange}
 use Rattle.frame.specs.Narrowband.{narrowband}
 use Rattle.frame.specs.Answers.{fields_of}
-use Rattle.frame.specs.Written.{body_bits, header-written}
+use Rattle.frame.specs.Written.{header-written}
 use Rattle.frame.proofs.narrowband.NarrowbandHeaderHeaderForm.write.Goals as goal
-
-pub check_sequence-check-requires : goal.check_sequence-check-requires
-check_sequence-check-requires c =
-    let r : InRange narrowband (fields_of c.args.header.now) = c.in_range.ensures.0 c.if-not-in_range.false in
-    body_bits c.args.out.now c.put_low_bits.new.places c.put_low_bits-2.new.places (fields_of c.args.header.now)
-    c.if-out-ne-BITS.false c.put_low_bits.ensures c.put_low_bits-2.ensures r
 
 pub returns : goal.returns
 returns c =
