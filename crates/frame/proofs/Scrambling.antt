@@ -1,17 +1,18 @@
 -- Scrambling is undone by itself, byte by byte.
 use Rattle.std.proofs.Common.{◌≡◌, ℕ, zero, suc, ◌+◌, ◌-◌, ◌*◌, ◌/◌, ◌%◌, ◌<◌, List, [], ◌∷◌, ◌++◌, map, length, get_or, take, drop, set, sym, refl, ap, ◌∙◌, ap₂, arith, take-add}
-use lib.Bits.{bit_xor, xor_add_and, xor_shr, xor_assoc, xor_self, xor_zero_r}
+use Rattle.std.specs.Int.Bits.{bit_xor, xor_add_and, xor_assoc, xor_self, xor_zero_r}
+use Rattle.std.proofs.lemmas.Nat.{xor_shr}
 use borrow.Rule.Slice.PartMut.{put_mid}
 use Rattle.std.specs.List.{range_with_len, AllByRecursion}
 use Rattle.std.proofs.lemmas.List.{append-nil, append_assoc, take_at, drop_at, take-append-drop, length-take, length-take-le, length-drop, take_more, take_more_set, nil_from_length}
 use Rattle.std.proofs.lemmas.Slice.{take-put_mid}
 use Rattle.bits.specs.Strings.{Bit, Bits}
 use Rattle.frame.specs.Numbers.{low_bits, number_of, Byte, byte_bits}
-use Rattle.frame.specs.Registers.{mask, Holds}
+use Rattle.frame.specs.Registers.{given, mask}
 use Rattle.frame.specs.Scrambler.{keystream, masked, scrambled}
 use Rattle.frame.specs.Laws.{ScramblingIsInvertible}
 use Rattle.frame.specs.Numbering.{append_bits, take_bits, drop_bits, resized, low_bits_bits, number_low, number_below, low_number}
-use Rattle.frame.proofs.Sequence.{keystream_bit}
+use Rattle.frame.proofs.Sequence.{keystream_bit, mask_given}
 
 -- ---- the mask
 
@@ -125,7 +126,7 @@ scrambling_is_invertible = (scrambled_bits, scrambled_apart, scrambled_onto)
 
 -- one more byte
 pub scrambled_push : (seed n : ℕ) (xs : List ℕ) (y : ℕ) → 8 * length xs ≡ n
-    → scrambled seed (xs ++ y ∷ []) ≡ scrambled seed xs ++ low_bits 8 (bit_xor y (mask seed n 8))
+    → scrambled seed (xs ++ y ∷ []) ≡ scrambled seed xs ++ low_bits 8 (bit_xor y (mask (keystream seed) n 8))
 unfolding mask
 scrambled_push seed n xs y e =
     let x = keystream seed in
@@ -152,30 +153,34 @@ module _ (seed i : ℕ) (xs bs : List ℕ) (inside : i < length xs) (long : leng
   length_part : length part ≡ 8
   length_part = simp (length-take, length-drop) (omega arith)
 
-  more : 8 * (i + 1) ≡ 8 * i + 8
-  more = omega arith
+  module _ (v m : ℕ) (gives : (k : ℕ) → given v k ≡ keystream seed (k + 8 * i)) (made : m ≡ mask (given v) 0 8) where
+    pub gives_next : (w : ℕ) → ((k : ℕ) → given w k ≡ given v (k + 8)) → (k : ℕ) → given w k ≡ keystream seed (k + 8 * (i + 1))
+    gives_next w h k = h k ∙ gives (k + 8) ∙ ap (keystream seed) (omega arith)
 
-  pub holds_next : (v : ℕ) → Holds seed (8 * i + 8) v → Holds seed (8 * (i + 1)) v
-  holds_next v h = rw more h
+    masked_by : m ≡ mask (keystream seed) (8 * i) 8
+    masked_by = made ∙ mask_given (keystream seed) v (8 * i) 8 gives
 
-  pub scramble_more : (m : ℕ) (ys : List ℕ) → take (8 * i) bs ≡ scrambled seed (take i xs) → m ≡ mask seed (8 * i) 8
-      → ys ≡ low_bits (length part) (bit_xor (get_or xs i 0) m)
-      → take (8 * (i + 1)) (put_mid (8 * i) (8 * i + 8 - 8 * i) bs ys) ≡ scrambled seed (take (i + 1) xs)
-  scramble_more m ys done e f =
-      let y = get_or xs i 0 in
-      let g : ys ≡ low_bits 8 (bit_xor y (mask seed (8 * i) 8)) = f ∙ ap₂ (λ w k. low_bits w (bit_xor y k)) length_part e in
-      let l : length ys ≡ 8 = ap length g in
-      let s : scrambled seed (take (i + 1) xs) ≡ scrambled seed (take i xs) ++ low_bits 8 (bit_xor y (mask seed (8 * i) 8)) =
-      ap (scrambled seed) (take_more xs i 0 inside) ∙ scrambled_push seed (8 * i) (take i xs) y (ap (λ n. 8 * n) (length-take-le i xs (omega arith))) in
-      take-put_mid (8 * i) (8 * i + 8 - 8 * i) bs ys (8 * (i + 1)) (omega arith) (omega arith) ∙ ap₂ (λ us vs. us ++ vs) done g ∙ sym s
+    pushed : (zs : List ℕ) (y : ℕ) → length zs ≡ i → scrambled seed (zs ++ y ∷ []) ≡ scrambled seed zs ++ low_bits 8 (bit_xor y m)
+    pushed zs y e =
+        scrambled_push seed (8 * i) zs y (ap (λ n. 8 * n) e) ∙ ap (λ k. scrambled seed zs ++ low_bits 8 (bit_xor y k)) (sym masked_by)
 
-  pub unscramble_more : (n m : ℕ) → AllByRecursion Bit bs → scrambled seed (take i xs) ≡ take (8 * i) bs → m ≡ mask seed (8 * i) 8
-      → n ≡ number_of part → scrambled seed (take (i + 1) (set xs i (bit_xor n m))) ≡ take (8 * (i + 1)) bs
-  unscramble_more n m h done e f =
-      let y = bit_xor n m in
-      let u : bit_xor y (mask seed (8 * i) 8) ≡ number_of part =
-      ap (bit_xor y) (sym e) ∙ xor_assoc n m m ∙ ap (bit_xor n) (xor_self m) ∙ xor_zero_r n ∙ f in
-      ap (scrambled seed) (take_more_set xs i y inside)
-      ∙ scrambled_push seed (8 * i) (take i xs) y (ap (λ k. 8 * k) (length-take-le i xs (omega arith)))
-      ∙ ap₂ (λ us vs. us ++ vs) done (ap (low_bits 8) u ∙ low_number 8 part (part_bits h) ∙ part_is)
-      ∙ sym (ap (λ k. take k bs) more ∙ take-add (8 * i) 8 bs)
+    pub scramble_more : (ys : List ℕ) → take (8 * i) bs ≡ scrambled seed (take i xs)
+        → ys ≡ low_bits (length part) (bit_xor (get_or xs i 0) m)
+        → take (8 * (i + 1)) (put_mid (8 * i) (8 * i + 8 - 8 * i) bs ys) ≡ scrambled seed (take (i + 1) xs)
+    scramble_more ys done f =
+        let y = get_or xs i 0 in
+        let g : ys ≡ low_bits 8 (bit_xor y m) = f ∙ ap (λ w. low_bits w (bit_xor y m)) length_part in
+        let l : length ys ≡ 8 = ap length g in
+        take-put_mid (8 * i) (8 * i + 8 - 8 * i) bs ys (8 * (i + 1)) (omega arith) (omega arith) ∙ ap₂ (λ us vs. us ++ vs) done g
+        ∙ sym (ap (scrambled seed) (take_more xs i 0 inside) ∙ pushed (take i xs) y (length-take-le i xs (omega arith)))
+
+    pub unscramble_more : (n : ℕ) → AllByRecursion Bit bs → scrambled seed (take i xs) ≡ take (8 * i) bs → n ≡ number_of part
+        → scrambled seed (take (i + 1) (set xs i (bit_xor n m))) ≡ take (8 * (i + 1)) bs
+    unscramble_more n h done f =
+        let y = bit_xor n m in
+        let more : 8 * (i + 1) ≡ 8 * i + 8 = omega arith in
+        let u : bit_xor y m ≡ number_of part = xor_assoc n m m ∙ ap (bit_xor n) (xor_self m) ∙ xor_zero_r n ∙ f in
+        ap (scrambled seed) (take_more_set xs i y inside)
+        ∙ pushed (take i xs) y (length-take-le i xs (omega arith))
+        ∙ ap₂ (λ us vs. us ++ vs) done (ap (low_bits 8) u ∙ low_number 8 part (part_bits h) ∙ part_is)
+        ∙ sym (ap (λ k. take k bs) more ∙ take-add (8 * i) 8 bs)

@@ -1,13 +1,13 @@
 -- The scrambler's sequence: its recurrence, and the register of the code.
-use Rattle.std.proofs.Common.{◌≡◌, ℕ, zero, suc, ◌+◌, ◌-◌, ◌*◌, ◌/◌, ◌%◌, ◌^◌, ◌<◌, Bool, true, false, cond, eqb, [], ◌∷◌, ◌++◌, map, length, get_or, take, sym, refl, ap, ◌∙◌, ap₂, add-zero, add-suc, add_comm, add-one, arith}
-use lib.Bits.{bit_and, bit_or, bit_xor, and_mask, or_shifted, or_shifted_r, xor_add_and}
+use Rattle.std.proofs.Common.{bit_and, bit_or, bit_xor, ◌≡◌, ℕ, zero, suc, ◌+◌, ◌-◌, ◌*◌, ◌/◌, ◌%◌, ◌^◌, ◌<◌, Bool, true, false, cond, eqb, [], ◌∷◌, ◌++◌, map, length, get_or, take, sym, refl, ap, ◌∙◌, ap₂, add-zero, add-suc, add_comm, add-one, arith}
+use Rattle.std.specs.Int.Bits.{or_shifted_r, xor_add_and}
 use Rattle.std.specs.List.{range_with_len}
-use Rattle.std.proofs.lemmas.Nat.{shl_whole}
+use Rattle.std.proofs.lemmas.Nat.{shl_whole, and_mask, or_shifted}
 use Rattle.std.proofs.lemmas.List.FromFn.{length-map-range_with_len, map-range_with_len_more}
 use Rattle.std.proofs.lemmas.List.{get_or-take}
 use Rattle.bits.specs.Strings.{Bits}
 use Rattle.frame.specs.Numbers.{low_bits, number_of}
-use Rattle.frame.specs.Registers.{mask, Holds}
+use Rattle.frame.specs.Registers.{tapped, moved, given, mask}
 use Rattle.frame.specs.Scrambler.{start, next, before, keystream}
 use Rattle.frame.specs.Laws.{Recurs, KeystreamRecurs}
 use Rattle.frame.specs.Numbering.{number_push, number-take_more, number_below, bit_of_number, low_bits_bits, take_bits, cons_bits, resized}
@@ -94,89 +94,119 @@ keystream_recurs = (
 
 -- ---- the register
 
--- the table of the code
-pub holds_start : (seed : ℕ) → seed < 2 → Holds seed 0 (get_or (0x2cf4 ∷ 0x3c80 ∷ []) seed 0)
-unfolding before
-holds_start zero l = refl
-holds_start (suc zero) l = refl
-holds_start (suc (suc seed)) l = absurd (omega arith)
-
--- what the code takes for the next bit
-abbrev pub tapped : ℕ → ℕ
-tapped v = bit_and (bit_xor (bit_xor (bit_xor (v / 2) (v / 2048)) (v / 4096)) (v / 8192)) 1
-
-pub tapped_bit : (v : ℕ) → tapped v < 2
-tapped_bit v = omega (arith, and_mask (bit_xor (bit_xor (bit_xor (v / 2) (v / 2048)) (v / 4096)) (v / 8192)) 1)
+-- a register holds the fourteen values before x[n], x[n−1] in its lowest bit
+abbrev Holds : ℕ → ℕ → ℕ → Type 0
+Holds seed n v = v ≡ number_of (take 14 (before seed n))
 
 module _ (seed n v : ℕ) (h : Holds seed n v) where
   window : Bits 14 (take 14 (before seed n))
   window = take_bits 14 n (before seed n) (resized (n + 14) (14 + n) (before seed n) (omega arith) (before_bits seed n))
-
-  pub holds_below : v < 2 ^ 14
-  holds_below = rw h (number_below 14 (take 14 (before seed n)) window)
 
   tap : (k : ℕ) → k < 14 → v / 2 ^ k % 2 ≡ get_or (before seed n) k 0
   tap k l =
       ap (λ m. m / 2 ^ k % 2) h ∙ bit_of_number (take 14 (before seed n)) k window.bits ∙ get_or-take 14 (before seed n) k 0 l
 
   -- the next bit
-  pub holds_bit : tapped v ≡ keystream seed n
+  holds_bit : tapped v ≡ keystream seed n
   unfolding keystream
-  holds_bit =
-      omega (
-        arith,
-        and_mask (bit_xor (bit_xor (bit_xor (v / 2 ^ 1) (v / 2 ^ 11)) (v / 2 ^ 12)) (v / 2 ^ 13)) 1,
-        xor_add_and (bit_xor (bit_xor (v / 2 ^ 1) (v / 2 ^ 11)) (v / 2 ^ 12)) (v / 2 ^ 13),
-        xor_add_and (bit_xor (v / 2 ^ 1) (v / 2 ^ 11)) (v / 2 ^ 12),
-        xor_add_and (v / 2 ^ 1) (v / 2 ^ 11),
-        tap 1 (omega arith),
-        tap 11 (omega arith),
-        tap 12 (omega arith),
-        tap 13 (omega arith),
-      )
+  holds_bit = omega (arith, tap 1 (omega arith), tap 11 (omega arith), tap 12 (omega arith), tap 13 (omega arith))
 
   -- the register after it
-  pub holds_more : Holds seed (n + 1) (bit_and (bit_or (v * 2 % 2 ^ 16) (tapped v)) 0x3fff)
+  holds_more : Holds seed (n + 1) (moved v)
   holds_more =
       let l : 13 < length (before seed n) = omega (arith, (before_bits seed n).size) in
       let e : v ≡ number_of (take 13 (before seed n)) + get_or (before seed n) 13 0 * 2 ^ 13 = h ∙ number-take_more (before seed n) 13 l in
       let b : number_of (take 13 (before seed n)) < 2 ^ 13 =
       number_below 13 (take 13 (before seed n)) (take_bits 13 (n + 1) (before seed n) (resized (n + 14) (13 + (n + 1)) (before seed n) (omega arith) (before_bits seed n))) in
       let x : keystream seed n < 2 = keystream_bit seed n in
-      let m : v * 2 % 2 ^ 16 ≡ v * 2 ^ 1 = omega (arith, holds_below) in
-      let o : bit_or (v * 2 % 2 ^ 16) (tapped v) ≡ v * 2 ^ 1 + keystream seed n = ap₂ bit_or m holds_bit ∙ or_shifted v 1 (keystream seed n) x in
-      let f : (v * 2 ^ 1 + keystream seed n) % 2 ^ 14 ≡ keystream seed n + 2 * number_of (take 13 (before seed n)) = omega arith in
-      ap (λ q. bit_and q 0x3fff) o ∙ and_mask (v * 2 ^ 1 + keystream seed n) 14 ∙ f ∙ ap (λ xs. number_of (take 14 xs)) (sym (before_more seed n))
+      let t : tapped v ≡ keystream seed n = holds_bit in
+      let f : moved v ≡ keystream seed n + 2 * number_of (take 13 (before seed n)) = omega arith in
+      f ∙ ap (λ xs. number_of (take 14 xs)) (sym (before_more seed n))
 
--- ---- eight bits of the sequence as a byte
+given_by : (seed n v : ℕ) → Holds seed n v → (k : ℕ) → given v k ≡ keystream seed (n + k)
+unfolding given
+given_by seed n v h zero = holds_bit seed n v h ∙ ap (keystream seed) (omega arith)
+given_by seed n v h (suc k) = given_by seed (n + 1) (moved v) (holds_more seed n v h) k ∙ ap (keystream seed) (omega arith)
 
-pub mask_none : (seed n : ℕ) → 0 ≡ mask seed n 0
+-- the table of the code
+pub given_start : (seed : ℕ) → seed < 2 → (k : ℕ) → given (get_or (0x2cf4 ∷ 0x3c80 ∷ []) seed 0) k ≡ keystream seed k
+unfolding before
+given_start zero l k = given_by 0 0 0x2cf4 refl k ∙ ap (keystream 0) (omega arith)
+given_start (suc zero) l k = given_by 1 0 0x3c80 refl k ∙ ap (keystream 1) (omega arith)
+given_start (suc (suc seed)) l k = absurd (omega arith)
+
+-- what the code takes for the next bit
+abbrev tap_of : ℕ → ℕ
+tap_of v = bit_and (bit_xor (bit_xor (bit_xor (v / 2 ^ 1) (v / 2 ^ 11)) (v / 2 ^ 12)) (v / 2 ^ 13)) 1
+
+pub tap_is : (v : ℕ) → tap_of v ≡ tapped v
+tap_is v =
+    omega (
+      arith,
+      and_mask (bit_xor (bit_xor (bit_xor (v / 2 ^ 1) (v / 2 ^ 11)) (v / 2 ^ 12)) (v / 2 ^ 13)) 1,
+      xor_add_and (bit_xor (bit_xor (v / 2 ^ 1) (v / 2 ^ 11)) (v / 2 ^ 12)) (v / 2 ^ 13),
+      xor_add_and (bit_xor (v / 2 ^ 1) (v / 2 ^ 11)) (v / 2 ^ 12),
+      xor_add_and (v / 2 ^ 1) (v / 2 ^ 11),
+    )
+
+pub moved_is : (v : ℕ) → bit_and (bit_or (v * 2 % 2 ^ 16) (tap_of v)) 0x3fff ≡ moved v
+moved_is v =
+    let m : v * 2 % 2 ^ 16 ≡ v % 2 ^ 15 * 2 ^ 1 = omega arith in
+    let f : (v % 2 ^ 15 * 2 ^ 1 + tapped v) % 2 ^ 14 ≡ moved v = omega arith in
+    ap (λ q. bit_and q 0x3fff) (ap₂ bit_or m (tap_is v) ∙ or_shifted (v % 2 ^ 15) 1 (tapped v) (omega arith))
+    ∙ and_mask (v % 2 ^ 15 * 2 ^ 1 + tapped v) 14 ∙ f
+
+pub given_next : (v k : ℕ) → given (moved v) k ≡ given v (k + 1)
+unfolding given
+given_next v k = rw add-one
+
+given_bit : (v k : ℕ) → given v k < 2
+unfolding given
+given_bit v zero = omega arith
+given_bit v (suc k) = given_bit (moved v) k
+
+-- ---- eight values as a byte
+
+pub mask_none : (x : ℕ → ℕ) (n : ℕ) → 0 ≡ mask x n 0
 unfolding mask
-mask_none seed n = refl
+mask_none x n = refl
 
-mask_bits : (seed n w : ℕ) → Bits w (map (keystream seed) (range_with_len n w))
-mask_bits seed n zero = record { size = refl; bits = tt }
-mask_bits seed n (suc w) =
-    cons_bits w (keystream seed n) (map (keystream seed) (range_with_len (n + 1) w)) (keystream_bit seed n) (mask_bits seed (n + 1) w)
-
-pub mask_below : (seed n w : ℕ) → mask seed n w < 2 ^ w
+mask_shifted : (x : ℕ → ℕ) (n m w : ℕ) → mask (λ k. x (k + n)) m w ≡ mask x (m + n) w
 unfolding mask
-mask_below seed n w = number_below w (map (keystream seed) (range_with_len n w)) (mask_bits seed n w)
+mask_shifted x n m zero = refl
+mask_shifted x n m (suc w) =
+    let e : m + 1 + n ≡ m + n + 1 = omega arith in
+    ap (λ y. x (m + n) + 2 * y) (mask_shifted x n (m + 1) w ∙ ap (λ k. mask x k w) e)
 
-pub mask_more : (seed n w : ℕ) → mask seed n (w + 1) ≡ keystream seed (n + w) * 2 ^ w + mask seed n w
-unfolding mask
-mask_more seed n w =
-    let x = keystream seed in
-    let p : number_of (map x (range_with_len n w) ++ x (n + w) ∷ []) ≡ mask seed n w + x (n + w) * 2 ^ w =
-    number_push (map x (range_with_len n w)) (x (n + w)) ∙ ap (λ m. mask seed n w + x (n + w) * 2 ^ m) (length-map-range_with_len x n w) in
-    ap number_of (map-range_with_len_more x n w (n + w) refl) ∙ p ∙ add_comm (mask seed n w) (x (n + w) * 2 ^ w)
+-- a register that gives the values from x[n] on gives the mask from there
+pub mask_given : (x : ℕ → ℕ) (v n w : ℕ) → ((k : ℕ) → given v k ≡ x (k + n)) → mask (given v) 0 w ≡ mask x n w
+mask_given x v n w h =
+    let e : given v ≡ (λ k. x (k + n)) = λ i k. h k i in
+    ap (λ y. mask y 0 w) e ∙ mask_shifted x n 0 w ∙ ap (λ k. mask x k w) (omega arith)
 
--- one more bit, as the code puts it in
-pub mask_step : (seed n k byte bit : ℕ) → k < 8 → byte ≡ mask seed n k → bit ≡ keystream seed (n + k)
-    → bit_or byte (bit * 2 ^ k % 2 ^ 8) ≡ mask seed n (k + 1)
-mask_step seed n k byte bit l e f =
-    let x = keystream seed (n + k) in
-    ap₂ (λ a b. bit_or a (b * 2 ^ k % 2 ^ 8)) e f
-    ∙ ap (bit_or (mask seed n k)) (shl_whole x 1 k 8 (keystream_bit seed (n + k)) (omega arith))
-    ∙ or_shifted_r x k (mask seed n k) (mask_below seed n k)
-    ∙ sym (mask_more seed n k)
+module _ (v : ℕ) where
+  mask_bits : (n w : ℕ) → Bits w (map (given v) (range_with_len n w))
+  mask_bits n zero = record { size = refl; bits = tt }
+  mask_bits n (suc w) =
+      cons_bits w (given v n) (map (given v) (range_with_len (n + 1) w)) (given_bit v n) (mask_bits (n + 1) w)
+
+  mask_below : (w : ℕ) → mask (given v) 0 w < 2 ^ w
+  unfolding mask
+  mask_below w = number_below w (map (given v) (range_with_len 0 w)) (mask_bits 0 w)
+
+  mask_more : (w : ℕ) → mask (given v) 0 (w + 1) ≡ given v w * 2 ^ w + mask (given v) 0 w
+  unfolding mask
+  mask_more w =
+      let x = given v in
+      let p : number_of (map x (range_with_len 0 w) ++ x w ∷ []) ≡ mask x 0 w + x w * 2 ^ w =
+      number_push (map x (range_with_len 0 w)) (x w) ∙ ap (λ m. mask x 0 w + x w * 2 ^ m) (length-map-range_with_len x 0 w) in
+      ap number_of (map-range_with_len_more x 0 w w (omega arith)) ∙ p ∙ add_comm (mask x 0 w) (x w * 2 ^ w)
+
+  -- one more bit, as the code puts it in
+  pub mask_step : (k byte bit : ℕ) → k < 8 → byte ≡ mask (given v) 0 k → bit ≡ given v k
+      → bit_or byte (bit * 2 ^ k % 2 ^ 8) ≡ mask (given v) 0 (k + 1)
+  mask_step k byte bit l e f =
+      ap₂ (λ a b. bit_or a (b * 2 ^ k % 2 ^ 8)) e f
+      ∙ ap (bit_or (mask (given v) 0 k)) (shl_whole (given v k) 1 k 8 (given_bit v k) (omega arith))
+      ∙ or_shifted_r (given v k) k (mask (given v) 0 k) (mask_below k)
+      ∙ sym (mask_more k)

@@ -1,6 +1,6 @@
 // The scrambler of a PSDU.
 ghost use Rattle.std.specs.Prelude.{◌≡◌, ℕ, ◌+◌, ◌<◌};
-ghost use Rattle.frame.specs.Registers.{mask, Holds};
+ghost use Rattle.frame.specs.Registers.{given, mask};
 ghost use Rattle.frame.specs.Scrambler.{keystream};
 ghost use Rattle.frame.specs.Answers.{Scrambles, Unscrambles};
 
@@ -11,7 +11,7 @@ use bits::{BadCall, are_bits};
 const STARTS: [u16; 2] = [0b10_1100_1111_0100, 0b11_1100_1000_0000];
 
 // The sequence x, of which the last fourteen values are kept.
-#[derive(Clone, Copy)]
+#[derive(Drop)]
 struct Keystream {
     register: u16,
 }
@@ -19,17 +19,17 @@ struct Keystream {
 impl Keystream {
     fn new(seed: u8) -> Keystream
         requires { seed < 2 }
-        ensures { Holds seed 0 result.register }
+        ensures { (k : ℕ) → given result.register k ≡ keystream seed k }
     {
         Keystream {
-            register: STARTS[seed as usize],
+            register: STARTS[usize::from(seed)],
         }
     }
 
-    // x[n], and on to n + 1.
+    // The next value, and on to the one after it.
     fn next_bit(&mut self) -> u8
-        ensures bit { result < 2 }
-        ensures next { (seed n : ℕ) → Holds seed n self.old.register → (result ≡ keystream seed n) × Holds seed (n + 1) self.new.register }
+        ensures bit { result ≡ given self.old.register 0 }
+        ensures rest { (k : ℕ) → given self.new.register k ≡ given self.old.register (k + 1) }
     {
         let past = self.register;
         let x = (past >> 1 ^ past >> 11 ^ past >> 12 ^ past >> 13) & 1;
@@ -37,9 +37,10 @@ impl Keystream {
         x as u8
     }
 
-    // x[n] to x[n + 7] as a number, x[n] lowest.
+    // The next eight values as a number, the first lowest.
     fn next_byte(&mut self) -> u8
-        ensures { (seed n : ℕ) → Holds seed n self.old.register → (result ≡ mask seed n 8) × Holds seed (n + 8) self.new.register }
+        ensures byte { result ≡ mask (given self.old.register) 0 8 }
+        ensures rest { (k : ℕ) → given self.new.register k ≡ given self.old.register (k + 8) }
     {
         let mut byte = 0;
         for k in 0..8u8 {

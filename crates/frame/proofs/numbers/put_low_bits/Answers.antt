@@ -1,5 +1,5 @@
 use Rattle.std.proofs.Common.{◌≡◌, ◌/◌, ◌^◌, ◌<◌, ◌≢◌, length, sym, ◌∙◌, arith, below_more}
-use lib.Bits.{and_mask}
+use Rattle.std.proofs.lemmas.Nat.{and_mask}
 use Rattle.std.proofs.lemmas.List.{ext_get_or, get_or-set_same, get_or-set_other}
 use Rattle.frame.specs.Numbers.{low_bits}
 use Rattle.frame.specs.Numbering.{get_or-low_bits, low_bits_bits}

@@ -3,7 +3,7 @@ use Rattle.std.proofs.ByRecursion.{All-from_get_or}
 use Rattle.std.proofs.lemmas.List.{take_all}
 use Rattle.frame.specs.Numbers.{Byte}
 use Rattle.frame.specs.Scrambler.{scrambled}
-use Rattle.frame.proofs.Scrambling.{holds_next, scramble_more}
+use Rattle.frame.proofs.Scrambling.{gives_next, scramble_more}
 use Rattle.frame.proofs.scrambler.scramble.Goals as goal
 
 pub loop-i-preserved : goal.loop-i-preserved
@@ -13,9 +13,11 @@ loop-i-preserved c =
     let xs = c.args.psdu.now in
     let bs = c.loop-i.bits in
     let long : length bs ≡ 8 * length xs = omega arith in
-    let next = c.next_byte.ensures seed (8 * i) c.loop-i.invariant.0 in (
-      holds_next seed i xs bs c.loop-i-test.true long _ next.1,
-      scramble_more seed i xs bs c.loop-i-test.true long c.next_byte.result c.put_low_bits.new.places c.loop-i.invariant.1 next.0 c.put_low_bits.ensures,
+    let v = c.loop-i.keystream.register in
+    let m = c.next_byte.result in
+    let e = c.next_byte.ensures in (
+      gives_next seed i xs bs c.loop-i-test.true long v m c.loop-i.invariant.0 e.byte _ e.rest,
+      scramble_more seed i xs bs c.loop-i-test.true long v m c.loop-i.invariant.0 e.byte _ c.loop-i.invariant.1 c.put_low_bits.ensures,
     )
 
 pub returns : goal.returns

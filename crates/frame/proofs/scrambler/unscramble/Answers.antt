@@ -1,10 +1,11 @@
 use Rattle.std.proofs.Common.{◌≡◌, ◌*◌, ◌<◌, length, take, sym, ap, ◌∙◌, arith}
-use lib.Bits.{bit_xor, xor_lt}
+use Rattle.std.specs.Int.Bits.{bit_xor}
+use Rattle.std.proofs.lemmas.Nat.{xor_lt}
 use Rattle.std.proofs.ByRecursion.{All-push}
 use Rattle.std.proofs.lemmas.List.{take_all, take_more_set}
 use Rattle.frame.specs.Numbers.{Byte}
 use Rattle.frame.specs.Scrambler.{scrambled}
-use Rattle.frame.proofs.Scrambling.{holds_next, part_bits, unscramble_more}
+use Rattle.frame.proofs.Scrambling.{gives_next, part_bits, unscramble_more}
 use Rattle.frame.proofs.scrambler.unscramble.Goals as goal
 
 pub number_of-requires : goal.number_of-requires
@@ -22,9 +23,12 @@ loop-i-preserved c =
     let y = bit_xor c.number_of.result c.next_byte.result in
     let inside : i < length xs = omega arith in
     let long : length bs ≡ 8 * length xs = omega arith in
-    let next = c.next_byte.ensures seed (8 * i) c.loop-i.invariant.0 in (
-      holds_next seed i xs bs inside long _ next.1,
-      unscramble_more seed i xs bs inside long c.number_of.result c.next_byte.result (c.are_bits.ensures.0 c.if-not-are_bits.false) c.loop-i.invariant.1 next.0 c.number_of.ensures,
+    let v = c.loop-i.keystream.register in
+    let m = c.next_byte.result in
+    let e = c.next_byte.ensures in (
+      gives_next seed i xs bs inside long v m c.loop-i.invariant.0 e.byte _ e.rest,
+      unscramble_more seed i xs bs inside long v m c.loop-i.invariant.0 e.byte c.number_of.result (c.are_bits.ensures.0 c.if-not-are_bits.false)
+          c.loop-i.invariant.1 c.number_of.ensures,
       rw (take_more_set xs i y inside)
           (All-push Byte (take i xs) y c.loop-i.invariant.2 (xor_lt 8 c.number_of.result c.next_byte.result c.number_of.type_inv c.next_byte.type_inv)),
     )

@@ -1,19 +1,22 @@
-use Rattle.std.proofs.Common.{◌≡◌, ◌+◌, add-zero, add_assoc, arith}
+use Rattle.std.proofs.Common.{◌≡◌, ◌+◌, sym, ap, ◌∙◌, arith}
+use Rattle.frame.specs.Registers.{given}
 use Rattle.frame.proofs.Sequence.{mask_none, mask_step}
 use Rattle.frame.proofs.scrambler.Keystream.next_byte.Goals as goal
 
 pub loop-k-init : goal.loop-k-init
-loop-k-init c = λ seed n h. (mask_none seed n, rw (add-zero n) h)
+loop-k-init c =
+    let v = c.args.self.now.register in (mask_none (given v) 0, λ k. ap (given v) (omega arith))
 
 pub loop-k-preserved : goal.loop-k-preserved
-loop-k-preserved c = λ seed n h.
-    let k = c.loop-k.k in
-    let i = c.loop-k.invariant seed n h in
-    let e = c.next_bit.ensures.next seed (n + k) i.1 in
-    (mask_step seed n k c.loop-k.byte c.next_bit.result c.loop-k-test.true i.0 e.0, rw (← (add_assoc n k 1)) e.1)
+loop-k-preserved c =
+    let v = c.args.self.now.register in
+    let i = c.loop-k.invariant in (
+      mask_step v c.loop-k.k c.loop-k.byte c.next_bit.result c.loop-k-test.true i.0 (c.next_bit.ensures.bit ∙ i.1 0 ∙ ap (given v) (omega arith)),
+      λ k. c.next_bit.ensures.rest k ∙ i.1 (k + 1) ∙ ap (given v) (omega arith),
+    )
 
 pub returns : goal.returns
-returns c = λ seed n h.
+returns c =
     let e : c.loop-k.k ≡ 8 = omega arith in
-    let i = c.loop-k.invariant seed n h in
-    rw e at i
+    let i = c.loop-k.invariant in
+    record { byte = rw e at i.0; rest = rw e at i.1 }

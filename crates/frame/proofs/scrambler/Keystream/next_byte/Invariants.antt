@@ -1,8 +1,8 @@
 use Rattle.std.proofs.Common.{◌≡◌, ℕ, ◌+◌}
-use Rattle.frame.specs.Registers.{mask, Holds}
+use Rattle.frame.specs.Registers.{given, mask}
 use Rattle.frame.proofs.scrambler.Keystream.next_byte.Given as goal
 
 abbrev pub invariant-loop-k : goal.invariant-loop-k
 invariant-loop-k l =
-    (seed n : ℕ) → Holds seed n l.initial.self.register
-    → (l.byte ≡ mask seed n l.k) × Holds seed (n + l.k) l.self.register
+    (l.byte ≡ mask (given l.initial.self.register) 0 l.k)
+    × ((k : ℕ) → given l.self.register k ≡ given l.initial.self.register (k + l.k))
