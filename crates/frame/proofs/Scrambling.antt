@@ -135,52 +135,40 @@ scrambled_push seed n xs y e =
 
 -- ---- the loops
 
--- a turn of either loop, at byte i and bits a to a + 7
-module _ (seed i : ℕ) (xs bs : List ℕ) (inside : i < length xs) (long : length bs ≡ 8 * length xs) where
-  -- the eight bits, as the code cuts them out
-  abbrev pub part : List ℕ
-  part = take (8 * i + 8 - 8 * i) (drop (8 * i) bs)
+-- a register that gives the sequence from byte i on, and its first eight values as a number
+module _ (seed i v m : ℕ) (gives : (k : ℕ) → given v k ≡ keystream seed (k + 8 * i)) (made : m ≡ mask (given v) 0 8) where
+  pub gives_next : (w : ℕ) → ((k : ℕ) → given w k ≡ given v (k + 8)) → (k : ℕ) → given w k ≡ keystream seed (k + 8 * (i + 1))
+  gives_next w h k = h k ∙ gives (k + 8) ∙ ap (keystream seed) (omega arith)
 
-  part_is : part ≡ take 8 (drop (8 * i) bs)
-  part_is = let e : 8 * i + 8 - 8 * i ≡ 8 = omega arith in ap (λ n. take n (drop (8 * i) bs)) e
+  pushed : (zs : List ℕ) (y : ℕ) → length zs ≡ i → scrambled seed (zs ++ y ∷ []) ≡ scrambled seed zs ++ low_bits 8 (bit_xor y m)
+  pushed zs y e =
+      scrambled_push seed (8 * i) zs y (ap (λ n. 8 * n) e)
+      ∙ ap (λ k. scrambled seed zs ++ low_bits 8 (bit_xor y k)) (sym (made ∙ mask_given (keystream seed) v (8 * i) 8 gives))
 
-  pub part_bits : AllByRecursion Bit bs → Bits 8 part
-  part_bits h =
-      rw part_is
-      (take_bits 8 (8 * (length xs - i) - 8) (drop (8 * i) bs)
-      (drop_bits (8 * i) (8 + (8 * (length xs - i) - 8)) bs (record { size = omega arith; bits = h })))
+  -- the code writes eight places
+  pub scramble_more : (xs bs ys : List ℕ) → i < length xs → length bs ≡ 8 * length xs → take (8 * i) bs ≡ scrambled seed (take i xs)
+      → ys ≡ low_bits (length (take (8 * i + 8 - 8 * i) (drop (8 * i) bs))) (bit_xor (get_or xs i 0) m)
+      → take (8 * (i + 1)) (put_mid (8 * i) (8 * i + 8 - 8 * i) bs ys) ≡ scrambled seed (take (i + 1) xs)
+  scramble_more xs bs ys inside long done f =
+      let y = get_or xs i 0 in
+      let e : length (take (8 * i + 8 - 8 * i) (drop (8 * i) bs)) ≡ 8 = simp (length-take, length-drop) (omega arith) in
+      let g : ys ≡ low_bits 8 (bit_xor y m) = f ∙ ap (λ w. low_bits w (bit_xor y m)) e in
+      let l : length ys ≡ 8 = ap length g in
+      take-put_mid (8 * i) (8 * i + 8 - 8 * i) bs ys (8 * (i + 1)) (omega arith) (omega arith) ∙ ap₂ (λ us vs. us ++ vs) done g
+      ∙ sym (ap (scrambled seed) (take_more xs i 0 inside) ∙ pushed (take i xs) y (length-take-le i xs (omega arith)))
 
-  length_part : length part ≡ 8
-  length_part = simp (length-take, length-drop) (omega arith)
+  -- the code reads eight bits
+  pub unscramble_more : (xs bs eight rest : List ℕ) (n : ℕ) → i < length xs → bs ≡ scrambled seed (take i xs) ++ (eight ++ rest) → Bits 8 eight
+      → n ≡ number_of eight → bs ≡ scrambled seed (take (i + 1) (set xs i (bit_xor n m))) ++ rest
+  unscramble_more xs bs eight rest n inside parts valid f =
+      let y = bit_xor n m in
+      let u : bit_xor y m ≡ number_of eight = xor_assoc n m m ∙ ap (bit_xor n) (xor_self m) ∙ xor_zero_r n ∙ f in
+      let s : scrambled seed (take (i + 1) (set xs i y)) ≡ scrambled seed (take i xs) ++ eight =
+      ap (scrambled seed) (take_more_set xs i y inside) ∙ pushed (take i xs) y (length-take-le i xs (omega arith))
+      ∙ ap (λ us. scrambled seed (take i xs) ++ us) (ap (low_bits 8) u ∙ low_number 8 eight valid) in
+      parts ∙ sym (ap (λ us. us ++ rest) s ∙ append_assoc (scrambled seed (take i xs)) eight rest)
 
-  module _ (v m : ℕ) (gives : (k : ℕ) → given v k ≡ keystream seed (k + 8 * i)) (made : m ≡ mask (given v) 0 8) where
-    pub gives_next : (w : ℕ) → ((k : ℕ) → given w k ≡ given v (k + 8)) → (k : ℕ) → given w k ≡ keystream seed (k + 8 * (i + 1))
-    gives_next w h k = h k ∙ gives (k + 8) ∙ ap (keystream seed) (omega arith)
-
-    masked_by : m ≡ mask (keystream seed) (8 * i) 8
-    masked_by = made ∙ mask_given (keystream seed) v (8 * i) 8 gives
-
-    pushed : (zs : List ℕ) (y : ℕ) → length zs ≡ i → scrambled seed (zs ++ y ∷ []) ≡ scrambled seed zs ++ low_bits 8 (bit_xor y m)
-    pushed zs y e =
-        scrambled_push seed (8 * i) zs y (ap (λ n. 8 * n) e) ∙ ap (λ k. scrambled seed zs ++ low_bits 8 (bit_xor y k)) (sym masked_by)
-
-    pub scramble_more : (ys : List ℕ) → take (8 * i) bs ≡ scrambled seed (take i xs)
-        → ys ≡ low_bits (length part) (bit_xor (get_or xs i 0) m)
-        → take (8 * (i + 1)) (put_mid (8 * i) (8 * i + 8 - 8 * i) bs ys) ≡ scrambled seed (take (i + 1) xs)
-    scramble_more ys done f =
-        let y = get_or xs i 0 in
-        let g : ys ≡ low_bits 8 (bit_xor y m) = f ∙ ap (λ w. low_bits w (bit_xor y m)) length_part in
-        let l : length ys ≡ 8 = ap length g in
-        take-put_mid (8 * i) (8 * i + 8 - 8 * i) bs ys (8 * (i + 1)) (omega arith) (omega arith) ∙ ap₂ (λ us vs. us ++ vs) done g
-        ∙ sym (ap (scrambled seed) (take_more xs i 0 inside) ∙ pushed (take i xs) y (length-take-le i xs (omega arith)))
-
-    pub unscramble_more : (n : ℕ) → AllByRecursion Bit bs → scrambled seed (take i xs) ≡ take (8 * i) bs → n ≡ number_of part
-        → scrambled seed (take (i + 1) (set xs i (bit_xor n m))) ≡ take (8 * (i + 1)) bs
-    unscramble_more n h done f =
-        let y = bit_xor n m in
-        let more : 8 * (i + 1) ≡ 8 * i + 8 = omega arith in
-        let u : bit_xor y m ≡ number_of part = xor_assoc n m m ∙ ap (bit_xor n) (xor_self m) ∙ xor_zero_r n ∙ f in
-        ap (scrambled seed) (take_more_set xs i y inside)
-        ∙ pushed (take i xs) y (length-take-le i xs (omega arith))
-        ∙ ap₂ (λ us vs. us ++ vs) done (ap (low_bits 8) u ∙ low_number 8 part (part_bits h) ∙ part_is)
-        ∙ sym (ap (λ k. take k bs) more ∙ take-add (8 * i) 8 bs)
+-- the bits of two parts
+pub both_bits : (us vs : List ℕ) → AllByRecursion Bit (us ++ vs) → AllByRecursion Bit us × AllByRecursion Bit vs
+both_bits [] vs h = (tt, h)
+both_bits (u ∷ us) vs h = let r = both_bits us vs h.1 in ((h.0, r.0), r.1)

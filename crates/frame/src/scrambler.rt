@@ -1,5 +1,5 @@
 // The scrambler of a PSDU.
-ghost use Rattle.std.specs.Prelude.{◌≡◌, ℕ, ◌+◌, ◌<◌};
+ghost use Rattle.std.specs.Prelude.{◌≡◌, ℕ, ◌+◌, ◌*◌, ◌<◌, Decides, length};
 ghost use Rattle.frame.specs.Registers.{given, mask};
 ghost use Rattle.frame.specs.Scrambler.{keystream};
 ghost use Rattle.frame.specs.Answers.{Scrambles, Unscrambles};
@@ -42,6 +42,7 @@ impl Keystream {
         ensures byte { result ≡ mask (given self.old.register) 0 8 }
         ensures rest { (k : ℕ) → given self.new.register k ≡ given self.old.register (k + 8) }
     {
+        // no fold: its closure would change `self`, of which a proof then learns nothing
         let mut byte = 0;
         for k in 0..8u8 {
             byte |= self.next_bit() << k;
@@ -50,14 +51,22 @@ impl Keystream {
     }
 }
 
+// Whether the seed is 0 or 1, and there are eight bits for each byte.
+fn fit(seed: u8, bits: &[u8], psdu: &[u8]) -> bool
+    ensures { Decides result ((seed < 2) × (length bits.now ≡ 8 * length psdu.now)) }
+{
+    seed < 2 && bits.len() % 8 == 0 && bits.len() / 8 == psdu.len()
+}
+
 // Writes the scrambled bits of the PSDU, eight for each byte.
 pub fn scramble(seed: u8, psdu: &[u8], bits: &mut [u8]) -> Result<(), BadCall>
     ensures { Scrambles seed psdu.now bits.old bits.new result }
 {
-    if seed > 1 || bits.len() % 8 != 0 || bits.len() / 8 != psdu.len() {
+    if !fit(seed, bits, psdu) {
         return Err(BadCall);
     }
     let mut keystream = Keystream::new(seed);
+    // by index: after a loop over `chunks_exact_mut` a proof knows nothing of the places
     for (i, byte) in psdu.iter().enumerate() {
         put_low_bits(*byte ^ keystream.next_byte(), &mut bits[8 * i..8 * i + 8]);
     }
@@ -68,12 +77,12 @@ pub fn scramble(seed: u8, psdu: &[u8], bits: &mut [u8]) -> Result<(), BadCall>
 pub fn unscramble(seed: u8, bits: &[u8], psdu: &mut [u8]) -> Result<(), BadCall>
     ensures { Unscrambles seed bits.now psdu.old psdu.new result }
 {
-    if seed > 1 || bits.len() % 8 != 0 || bits.len() / 8 != psdu.len() || !are_bits(bits) {
+    if !fit(seed, bits, psdu) || !are_bits(bits) {
         return Err(BadCall);
     }
     let mut keystream = Keystream::new(seed);
-    for (i, byte) in psdu.iter_mut().enumerate() {
-        *byte = number_of(&bits[8 * i..8 * i + 8]) ^ keystream.next_byte();
+    for (i, eight) in bits.chunks_exact(8).enumerate() {
+        psdu[i] = number_of(eight) ^ keystream.next_byte();
     }
     Ok(())
 }

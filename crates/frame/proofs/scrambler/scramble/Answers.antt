@@ -16,8 +16,8 @@ loop-i-preserved c =
     let v = c.loop-i.keystream.register in
     let m = c.next_byte.result in
     let e = c.next_byte.ensures in (
-      gives_next seed i xs bs c.loop-i-test.true long v m c.loop-i.invariant.0 e.byte _ e.rest,
-      scramble_more seed i xs bs c.loop-i-test.true long v m c.loop-i.invariant.0 e.byte _ c.loop-i.invariant.1 c.put_low_bits.ensures,
+      gives_next seed i v m c.loop-i.invariant.0 e.byte _ e.rest,
+      scramble_more seed i v m c.loop-i.invariant.0 e.byte xs bs _ c.loop-i-test.true long c.loop-i.invariant.1 c.put_low_bits.ensures,
     )
 
 pub returns : goal.returns
