@@ -1,5 +1,5 @@
 -- The check register of the code.
-use Rattle.std.proofs.Common.{◌≡◌, ℕ, ◌+◌, ◌-◌, ◌*◌, ◌/◌, ◌%◌, ◌≤◌, List, [], ◌∷◌, reverse, fold, arith}
+use Rattle.std.proofs.Common.{◌≡◌, ℕ, ◌+◌, ◌*◌, ◌/◌, ◌%◌, ◌≤◌, List, [], ◌∷◌, reverse, fold, arith}
 use Rattle.std.proofs.lemmas.Nat.{xor_lt}
 use Rattle.bits.specs.Strings.{bits_of}
 use Rattle.frame.specs.Numbers.{low_bits}

@@ -1,4 +1,4 @@
 pub mod Sequence
 pub mod Scrambling
 pub mod Checking
-pub mod Reading
+pub mod Folds

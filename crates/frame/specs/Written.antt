@@ -1,21 +1,13 @@
 -- The narrowband header: what is written is read again, and what is read was written.
-use Rattle.std.specs.Prelude.{◌≡◌, ℕ, ◌+◌, ◌-◌, ◌*◌, ◌<◌, ◌≤◌, Bool, List, [], ◌∷◌, ◌++◌, map, length, take, drop, Ok, Err, Decides, Result, slice_index, slice_index_or, slice_set, refl}
-use Rattle.std.proofs.Math.Path.{sym, ap}
-use Rattle.std.proofs.Common.{subst, ◌∙◌}
-use native.Mathlib.Omega.{arith}
+use Rattle.std.specs.Prelude.{◌≡◌, ℕ, ◌+◌, ◌-◌, ◌<◌, ◌≤◌, Bool, List, [], ◌∷◌, ◌++◌, map, length, take, drop, Ok, slice_index, slice_index_or, slice_set, refl}
+use Rattle.std.proofs.Common.{sym, ap, subst, ◌∙◌, arith}
 use borrow.Rule.Slice.PartMut.{put_mid, post_of}
-use Rattle.std.specs.List.{range_with_len, AllByRecursion}
-use Rattle.std.proofs.lemmas.List.{append-nil, length-drop, take_at, take_all, drop_at, drop_all, take-append-drop}
+use Rattle.std.specs.List.{range_with_len}
+use Rattle.std.proofs.lemmas.List.{append-nil, length-drop, take_at, drop_at, drop_all, take-append-drop}
 use Rattle.std.proofs.lemmas.List.FromFn.{fill_by_all}
-use Rattle.bits.specs.Strings.{Bit, Bits}
-use Rattle.frame.specs.declared.header.Header.{Header}
-use Rattle.frame.specs.declared.fault.FormFault.{FormFault}
-use Rattle.frame.specs.declared.fault.FormFault.TheVariants.{Rate}
-use Rattle.frame.specs.declared.fault.ReadHeaderFault.{ReadHeaderFault}
-use Rattle.frame.specs.declared.fault.ReadHeaderFault.TheVariants.{Form as Faulty}
+use Rattle.bits.specs.Strings.{Bits}
 use Rattle.frame.specs.Numbers.{low_bits, number_of}
-use Rattle.frame.specs.Headers.{Fields, header, InRange, Checked, Clear, Carried, Read, Lawful}
-use Rattle.frame.specs.Answers.{fields_of, Reads}
+use Rattle.frame.specs.Headers.{Fields, header, InRange, Carried, Read, Lawful}
 use Rattle.frame.specs.Narrowband.{register, hcs, said, fields, narrowband}
 use Rattle.frame.specs.Numbering.{cons_bits, append_bits, take_bits, drop_bits, low_bits_bits, number_low, number_below, low_number}
 use Rattle.frame.specs.Reading.{bit_at}

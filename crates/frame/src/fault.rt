@@ -22,6 +22,7 @@ pub enum ReadHeaderFault {
     Form(FormFault),
 }
 
+// By hand, since a derived `From` has no contract, and `read` says which fault came through a `?`.
 impl From<BadCall> for ReadHeaderFault {
     ghost from_gives = { λ e r. r ≡ ReadHeaderFault.Call e };
 

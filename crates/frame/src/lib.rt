@@ -34,9 +34,7 @@ impl FormFault {
     pub fn layer(&self) -> u16
         ensures { result ≡ form_layer self.now }
     {
-        match self {
-            FormFault::Check | FormFault::Reserved(_) | FormFault::Rate(_) => 2,
-        }
+        2
     }
 
     pub fn place(&self) -> u16

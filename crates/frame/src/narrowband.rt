@@ -51,10 +51,7 @@ fn check_sequence(bits: &[u8]) -> [u8; 4]
 fn in_range(header: &Header) -> bool
     ensures { Decides result (InRange narrowband (fields_of header.now)) }
 {
-    header.rate <= 3
-        && (9..=264).contains(&header.bytes)
-        && header.burst <= 1
-        && header.seed <= 1
+    header.rate <= 3 && (9..=264).contains(&header.bytes) && header.burst <= 1 && header.seed <= 1
 }
 
 // The check bits are those of the fifteen bits before them.

@@ -1,5 +1,5 @@
 use Rattle.std.proofs.Common.{rules, ◌≡◌, fold, reverse, ◌∙◌}
-use Rattle.frame.proofs.Reading.{taken, folded}
+use Rattle.frame.proofs.Folds.{taken, folded}
 use Rattle.frame.proofs.numbers.number_of.Goals as goal
 
 pub returns : goal.returns

@@ -1,4 +1,4 @@
-use Rattle.std.proofs.Common.{rules, ◌≡◌, ◌+◌, ◌*◌, ◌<◌, ◌++◌, [], length, take, sym, ap, ◌∙◌, refl, arith, length-append, append-nil, length-set}
+use Rattle.std.proofs.Common.{◌≡◌, ◌+◌, ◌<◌, ◌++◌, [], length, take, sym, ap, ◌∙◌, refl, arith, length-append, append-nil, length-set}
 use Rattle.std.specs.List.{AllByRecursion}
 use Rattle.std.specs.Int.Bits.{bit_xor}
 use Rattle.std.proofs.ByRecursion.{All-push}

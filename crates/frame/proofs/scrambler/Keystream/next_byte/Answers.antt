@@ -1,4 +1,4 @@
-use Rattle.std.proofs.Common.{◌≡◌, ◌+◌, sym, ap, ◌∙◌, arith}
+use Rattle.std.proofs.Common.{◌≡◌, ◌+◌, ap, ◌∙◌, arith}
 use Rattle.frame.specs.Registers.{given}
 use Rattle.frame.proofs.Sequence.{mask_none, mask_step}
 use Rattle.frame.proofs.scrambler.Keystream.next_byte.Goals as goal
