@@ -4,9 +4,8 @@
 //           RATE    0   LENGTH    0    burst   seed   HCS
 //
 // RATE and LENGTH (the bytes of the PSDU past nine) stand lowest bit first, the HCS highest bit first.
-ghost use Rattle.std.specs.Prelude.{◌≡◌, ◌<◌, true, Decides, MatchResult};
-ghost use Rattle.std.specs.List.{AllByRecursion};
-ghost use Rattle.bits.specs.Strings.{Bit, Bits};
+ghost use Rattle.std.specs.Prelude.{◌≡◌, Decides, MatchResult};
+ghost use Rattle.bits.specs.Strings.{Bits};
 ghost use Rattle.frame.specs.declared.fault.FormFault.{FormFault};
 ghost use Rattle.frame.specs.declared.fault.FormFault.TheVariants.{Check, Reserved, Rate};
 ghost use Rattle.frame.specs.Headers.{InRange, Checked, Clear, LowestSet, Carried};
