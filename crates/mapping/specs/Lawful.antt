@@ -4,16 +4,26 @@ use Rattle.std.proofs.Common.{◌∙◌, ap, sym, arith}
 use Rattle.bits.specs.Strings.{Bits}
 use Rattle.mapping.specs.Maps.{Lawful}
 use Rattle.mapping.specs.Mappings.{dbpsk, dqpsk, d8psk, gmsk, dbpsk_steps, dqpsk_steps, d8psk_steps}
-use Rattle.mapping.specs.TablesLemmas.{lawful}
+use Rattle.mapping.specs.Tables.{Table}
+use Rattle.mapping.specs.TablesLemmas.{table, lawful}
+
+pub dbpsk_table : Table 1 dbpsk_steps
+dbpsk_table = table 1 dbpsk_steps refl
+
+pub dqpsk_table : Table 2 dqpsk_steps
+dqpsk_table = table 2 dqpsk_steps refl
+
+pub d8psk_table : Table 3 d8psk_steps
+d8psk_table = table 3 d8psk_steps refl
 
 pub dbpsk_lawful : Lawful dbpsk
-dbpsk_lawful = lawful 1 dbpsk_steps refl
+dbpsk_lawful = lawful 1 dbpsk_steps dbpsk_table
 
 pub dqpsk_lawful : Lawful dqpsk
-dqpsk_lawful = lawful 2 dqpsk_steps refl
+dqpsk_lawful = lawful 2 dqpsk_steps dqpsk_table
 
 pub d8psk_lawful : Lawful d8psk
-d8psk_lawful = lawful 3 d8psk_steps refl
+d8psk_lawful = lawful 3 d8psk_steps d8psk_table
 
 -- a string of one bit is that bit
 pub one_bit : (bs : List ℕ) → Bits 1 bs → bs ≡ slice_index bs 0 ∷ []

@@ -1,14 +1,14 @@
 -- Tables of phase steps: what the test of a table tells, and the law of the mapping that it gives.
-use Rattle.std.specs.Prelude.{◌≡◌, ℕ, zero, suc, ◌+◌, ◌%◌, ◌^◌, ◌<◌, ◌≤◌, true, not, ◌&&◌, List, [], ◌∷◌, length, ◌==◌, ◌≢◌, nat_le, nat_lt, slice_index, refl}
+use Rattle.std.specs.Prelude.{◌≡◌, ℕ, zero, suc, ◌+◌, ◌%◌, ◌^◌, ◌<◌, true, not, ◌&&◌, List, [], ◌∷◌, length, ◌==◌, ◌≢◌, nat_le, nat_lt, slice_index, refl}
 use Rattle.std.proofs.Common.{sym, ap, arith}
 use Rattle.std.specs.List.{AllByRecursion}
 use Rattle.std.specs.Int.Digits.{number_from_digits}
 use Rattle.std.proofs.ByRecursion.{All-get_or}
 use Rattle.std.proofs.lemmas.Bool.{and_parts, ltb-true, leb-true, eqb-true, eqb-false, not-true}
-use Rattle.bits.specs.Strings.{Bit, Bits}
+use Rattle.bits.specs.Strings.{Bits}
 use Rattle.mapping.specs.Maps.{Lawful}
 use Rattle.mapping.specs.Mappings.{phases}
-use Rattle.mapping.specs.Tables.{lacks, distinct, serves, Leads, NoneLeads}
+use Rattle.mapping.specs.Tables.{lacks, distinct, serves, Table, Leads, NoneLeads}
 use Rattle.mapping.specs.Numbers.{same_number, number_below}
 
 -- a number that the list lacks stands nowhere in it
@@ -30,9 +30,6 @@ distinct_below : (xs : List ℕ) → distinct xs ≡ true → AllByRecursion (λ
 distinct_below [] t = tt
 distinct_below (x ∷ xs) t = (first_below x xs t, distinct_below xs (rest x xs t).1)
 
-pub step_below : (xs : List ℕ) (i : ℕ) → distinct xs ≡ true → i < length xs → slice_index xs i < 16
-step_below xs i t h = All-get_or (λ x. x < 16) xs i 0 h (distinct_below xs t)
-
 distinct_apart : (xs : List ℕ) (i j : ℕ) → distinct xs ≡ true → i < length xs → j < length xs → slice_index xs i ≡ slice_index xs j → i ≡ j
 distinct_apart [] i j t hi hj e = absurd (omega arith)
 distinct_apart (x ∷ xs) zero zero t hi hj e = refl
@@ -41,14 +38,7 @@ distinct_apart (x ∷ xs) (suc i) zero t hi hj e = absurd (lacks_at x xs i (rest
 distinct_apart (x ∷ xs) (suc i) (suc j) t hi hj e =
     ap suc (distinct_apart xs i j (rest x xs t).1 (omega arith) (omega arith) e)
 
--- what a table that serves w bits keeps
-pub record Table (w : ℕ) (steps : List ℕ) : Type 0 where
-  pub some : 1 ≤ w
-  pub narrow : w ≤ 3
-  pub size : length steps ≡ 2 ^ w
-  pub distinct : distinct steps ≡ true
-  pub apart : (i j : ℕ) → i < length steps → j < length steps → slice_index steps i ≡ slice_index steps j → i ≡ j
-
+-- a table that serves w bits
 pub table : (w : ℕ) (steps : List ℕ) → serves w steps ≡ true → Table w steps
 table w steps t =
     let p = and_parts (nat_le 1 w && nat_le w 3) (length steps == 2 ^ w && distinct steps) t in
@@ -58,7 +48,7 @@ table w steps t =
       some = leb-true 1 w a.0;
       narrow = leb-true w 3 a.1;
       size = eqb-true (length steps) (2 ^ w) b.0;
-      distinct = b.1;
+      below = distinct_below steps b.1;
       apart = λ i j hi hj e. distinct_apart steps i j b.1 hi hj e;
     }
 
@@ -66,34 +56,34 @@ table w steps t =
 pub number_in : (w : ℕ) (steps bs : List ℕ) → Table w steps → Bits w bs → number_from_digits 2 bs < length steps
 number_in w steps bs t b = omega (arith, number_below w bs b, t.size)
 
+step_below : (w i : ℕ) (steps : List ℕ) → Table w steps → i < length steps → slice_index steps i < 16
+step_below w i steps t h = All-get_or (λ x. x < 16) steps i 0 h t.below
+
 -- two steps from one phase to one phase are the same
 same_step : (s a b : ℕ) → s < 16 → a < 16 → b < 16 → (s + a) % 16 ≡ (s + b) % 16 → a ≡ b
 same_step s a b hs ha hb e = omega arith
 
-pub lawful : (w : ℕ) (steps : List ℕ) → serves w steps ≡ true → Lawful (phases w steps)
+pub lawful : (w : ℕ) (steps : List ℕ) → Table w steps → Lawful (phases w steps)
 lawful w steps t =
-    let k = table w steps t in
     record {
-      some = k.some;
-      narrow = k.narrow;
+      some = t.some;
+      narrow = t.narrow;
       several = omega arith;
       bytes = omega arith;
       below = λ s bs hs b. omega arith;
       apart = λ s bs cs hs b c e.
-          let i : number_from_digits 2 bs < length steps = number_in w steps bs k b in
-          let j : number_from_digits 2 cs < length steps = number_in w steps cs k c in
-          same_number w bs cs b c (k.apart (number_from_digits 2 bs) (number_from_digits 2 cs) i j
-          (same_step s (slice_index steps (number_from_digits 2 bs)) (slice_index steps (number_from_digits 2 cs)) hs
-          (step_below steps (number_from_digits 2 bs) k.distinct i) (step_below steps (number_from_digits 2 cs) k.distinct j) e));
+          let n : ℕ = number_from_digits 2 bs in let m : ℕ = number_from_digits 2 cs in
+          let i : n < length steps = number_in w steps bs t b in
+          let j : m < length steps = number_in w steps cs t c in
+          same_number w bs cs b c (t.apart n m i j
+          (same_step s (slice_index steps n) (slice_index steps m) hs (step_below w n steps t i) (step_below w m steps t j) e));
     }
 
 -- w bits pick one of the steps
-pub picked : (w n : ℕ) (steps bs : List ℕ) → serves w steps ≡ true → length bs ≡ w → AllByRecursion Bit bs → n ≡ number_from_digits 2 bs → (n < length steps) × (slice_index steps n < 16)
-picked w n steps bs t l b e =
-    let k = table w steps t in
-    let h : n < length steps = omega (arith, number_in w steps bs k (record { size = l; bits = b })) in
-    (h, step_below steps n k.distinct h)
+pub picked : (w : ℕ) (steps bs : List ℕ) → Table w steps → Bits w bs → (number_from_digits 2 bs < length steps) × (slice_index steps (number_from_digits 2 bs) < 16)
+picked w steps bs t b =
+    let h = number_in w steps bs t b in (h, step_below w (number_from_digits 2 bs) steps t h)
 
 -- where no step of the table leads to the phase, no bits do
-pub none_leads : (w : ℕ) (steps : List ℕ) (prior next : ℕ) → serves w steps ≡ true → NoneLeads steps prior next (length steps) → (bs : List ℕ) → Bits w bs → Leads steps prior next (number_from_digits 2 bs) → ⊥
-none_leads w steps prior next t no' bs b e = no' (number_from_digits 2 bs) (number_in w steps bs (table w steps t) b) e
+pub none_leads : (w : ℕ) (steps : List ℕ) (prior next : ℕ) → Table w steps → NoneLeads steps prior next (length steps) → (bs : List ℕ) → Bits w bs → Leads steps prior next (number_from_digits 2 bs) → ⊥
+none_leads w steps prior next t no' bs b e = no' (number_from_digits 2 bs) (number_in w steps bs t b) e

@@ -7,7 +7,7 @@ mod phase;
 #[cfg(test)]
 mod tests;
 
-ghost use Rattle.std.specs.Prelude.{◌≡◌, [], ◌∷◌, Ok};
+ghost use Rattle.std.specs.Prelude.{◌≡◌, ℕ, [], ◌∷◌, Ok};
 ghost use Rattle.mapping.specs.Examples.{Examples};
 ghost use Rattle.mapping.specs.Maps.{Map, Lawful};
 ghost use Rattle.mapping.specs.Answers.{Steps, Reads};
@@ -16,7 +16,7 @@ ghost use Rattle.mapping.specs.Laws.{LawfulIsDefined, ReadsBack};
 use bits::BadCall;
 use fault::ReadFault;
 pub use gmsk::Gmsk;
-pub use phase::{D8psk, Dbpsk, Dqpsk};
+pub use phase::{D8psk, Dbpsk, Dqpsk, PhaseSteps};
 
 // A mapping. Its ghost member is the mapping as a value of the specs.
 pub trait Mapping: Copy {
@@ -25,15 +25,25 @@ pub trait Mapping: Copy {
     // the count of symbol numbers, 2 to 256
     const Q: usize;
 
+    ghost W: { ℕ };
+
+    ghost Q: { ℕ };
+
     ghost map: { Map };
 
     // W, for generic code
     fn width(&self) -> usize
-        ensures { result ≡ map.w };
+        ensures { result ≡ map.w }
+    {
+        Self::W
+    }
 
     // Q, for generic code
     fn order(&self) -> usize
-        ensures { result ≡ map.q };
+        ensures { result ≡ map.q }
+    {
+        Self::Q
+    }
 
     // The symbol to which the bits lead from the prior symbol.
     fn step(&self, prior: u8, bits: &[u8]) -> Result<u8, BadCall>
@@ -42,6 +52,10 @@ pub trait Mapping: Copy {
     // Writes the bits that lead from the prior symbol to the next.
     fn read(&self, prior: u8, next: u8, bits: &mut [u8]) -> Result<(), ReadFault>
         ensures { Reads map prior next bits.old bits.new result };
+
+    ghost width_is: { W ≡ map.w };
+
+    ghost order_is: { Q ≡ map.q };
 
     ghost lawful: { Lawful map };
 }

@@ -62,12 +62,22 @@ fn dqpsk_steps_and_reads(rt: HostRuntime) {
 
 #[test]
 fn one_bit_steps_and_reads(rt: HostRuntime) {
-    for i in 0..4usize {
-        let (prior, bit, next) = DBPSK[i];
+    for (prior, bit, next) in DBPSK {
         leads(&rt, &Dbpsk, prior, &[bit], next, &mut [7]);
-        let (prior, bit, next) = GMSK[i];
+    }
+    for (prior, bit, next) in GMSK {
         leads(&rt, &Gmsk, prior, &[bit], next, &mut [7]);
     }
+}
+
+#[test]
+fn tables_have_a_step_for_each_number(rt: HostRuntime) {
+    assert_eq!(rt; Dbpsk::steps(), [4, 12].as_slice());
+    assert_eq!(rt; Dqpsk::steps(), [2, 6, 14, 10].as_slice());
+    assert_eq!(rt; D8psk::steps(), [1, 3, 7, 5, 15, 13, 9, 11].as_slice());
+    assert_eq!(rt; Dbpsk::steps().len(), 1 << Dbpsk::BITS);
+    assert_eq!(rt; Dqpsk::steps().len(), 1 << Dqpsk::BITS);
+    assert_eq!(rt; D8psk::steps().len(), 1 << D8psk::BITS);
 }
 
 #[test]

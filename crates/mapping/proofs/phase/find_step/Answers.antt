@@ -1,12 +1,10 @@
-use Rattle.std.proofs.Common.{arith, below_more}
-use Rattle.mapping.specs.TablesLemmas.{step_below}
+use Rattle.std.proofs.Common.{ℕ, ◌<◌, length, get_or, arith}
+use Rattle.std.proofs.ByRecursion.{All-get_or}
+use Rattle.std.proofs.iter.Serving.{serving}
 use Rattle.mapping.proofs.phase.find_step.Goals as goal
 
-pub overflow_add-prior : goal.overflow_add-prior
-overflow_add-prior c = omega (arith, step_below c.args.steps.now c.loop-i.i c.requires.steps c.loop-i-test.true)
-
-pub loop-i-preserved : goal.loop-i-preserved
-loop-i-preserved c = below_more _ _ c.loop-i.invariant c.if-prior-step.false
-
-pub returns : goal.returns
-returns c i h = c.loop-i.invariant i (omega arith)
+pub position-requires-clause-callable : goal.position-requires-clause-callable
+position-requires-clause-callable c =
+    let h : (k d : ℕ) → k < length c.args.steps.now → get_or c.args.steps.now k d < 16 =
+    λ k d l. All-get_or (λ s. s < 16) c.args.steps.now k d l c.requires.steps in
+    grind (serving, arith)
