@@ -1,43 +1,40 @@
 -- Stepping and reading are functions, for every lawful mapping.
-use Rattle.std.proofs.Common.{◌≡◌, ℕ, zero, suc, ◌<◌, ◌⊎◌, List, [], ◌∷◌, length, Ok, Err, Result, sym, refl, ap, ◌∙◌, inl, inr, arith}
+use Rattle.std.proofs.Common.{◌≡◌, ℕ, zero, suc, ◌<◌, ◌⊎◌, List, [], ◌∷◌, length, Ok, Err, Result, sym, refl, ap, ◌∙◌, inl, inr, arith, rules}
 use Rattle.std.proofs.lemmas.Bool.{cases_lt, cases_eq}
 use Rattle.bits.specs.Strings.{Bits}
 use Rattle.mapping.specs.declared.fault.ReadFault.{ReadFault}
 use Rattle.mapping.specs.declared.fault.ReadFault.TheVariants.{Call, NoSuchStep}
 use Rattle.mapping.specs.Maps.{Map, Lawful}
 use Rattle.mapping.specs.Answers.{Steps, Reads, Readable}
-use Rattle.mapping.specs.Laws.{AlwaysSteps, StepsOnce, AlwaysReads, ReadsOnce, ReadsSteps, ReadsBack, LawfulIsDefined}
+use Rattle.mapping.specs.Laws.{AlwaysSteps, StepsOnce, AlwaysReads, ReadsOnce, ReadsSteps, LawfulIsDefined}
 
 -- one bit more in front, and one less
 longer : (n b : ℕ) (bs : List ℕ) → b < 2 → Bits n bs → Bits (suc n) (b ∷ bs)
-longer n b bs h k = record { size = ap suc k.size; bits = (h, k.bits) }
+longer n b bs h k = search rules
 
 shorter : (n b : ℕ) (bs : List ℕ) → Bits (suc n) (b ∷ bs) → Bits n bs
-shorter n b bs k =
-    let e : suc (length bs) ≡ suc n = k.size in record { size = omega arith; bits = k.bits.1 }
+shorter n b bs k = search rules
 
 -- a call is a good one or not
 cases_bits : (n : ℕ) (xs : List ℕ) → Bits n xs ⊎ (Bits n xs → ⊥)
-cases_bits zero [] = inl (record { size = refl; bits = tt })
-cases_bits zero (x ∷ xs) = inr (λ b. let e : suc (length xs) ≡ 0 = b.size in omega arith)
-cases_bits (suc n) [] = inr (λ b. let e : 0 ≡ suc n = b.size in omega arith)
+cases_bits zero [] = inl (search rules)
+cases_bits zero (x ∷ xs) = inr (λ b. omega (arith, b.size))
+cases_bits (suc n) [] = inr (λ b. omega (arith, b.size))
 cases_bits (suc n) (x ∷ xs) =
     elim (cases_lt x 2) [
-      | inr h ↦ inr (λ b. let l : x < 2 = b.bits.0 in omega arith)
+      | inr h ↦ inr (λ b. omega (arith, b.bits.0))
       | inl h ↦
-          elim (cases_bits n xs) [
-            | inl b ↦ inl (longer n x xs h b)
-            | inr no' ↦ inr (λ b. no' (shorter n x xs b))
-          ]
+          elim (cases_bits n xs)
+          [ inl b ↦ inl (longer n x xs h b) | inr no' ↦ inr (λ b. no' (shorter n x xs b)) ]
     ]
 
 cases_readable : (m : Map) (prior next : ℕ) (places : List ℕ) → Readable m prior next places ⊎ (Readable m prior next places → ⊥)
 cases_readable m prior next places =
     elim (cases_lt prior m.q) [
-      | inr h ↦ inr (λ r. let l : prior < m.q = r.from in omega arith)
+      | inr h ↦ inr (λ r. omega (arith, r.from))
       | inl h ↦
           elim (cases_lt next m.q) [
-            | inr k ↦ inr (λ r. let l : next < m.q = r.to in omega arith)
+            | inr k ↦ inr (λ r. omega (arith, r.to))
             | inl k ↦
                 elim (cases_eq (length places) m.w)
                 [ inl e ↦ inl (record { from = h; to = k; size = e }) | inr no' ↦ inr (λ r. no' r.size) ]
@@ -51,14 +48,14 @@ None n next f = (bs : List ℕ) → Bits n bs → f bs ≡ next → ⊥
 none_empty : (next : ℕ) (f : List ℕ → ℕ) → (f [] ≡ next → ⊥) → None 0 next f
 unfolding None
 none_empty next f h [] b e = h e
-none_empty next f h (x ∷ xs) b e = let k : suc (length xs) ≡ 0 = b.size in omega arith
+none_empty next f h (x ∷ xs) b e = omega (arith, b.size)
 
 none_longer : (n next : ℕ) (f : List ℕ → ℕ) → None n next (λ bs. f (0 ∷ bs)) → None n next (λ bs. f (1 ∷ bs)) → None (suc n) next f
 unfolding None
-none_longer n next f h k [] b e = let l : 0 ≡ suc n = b.size in omega arith
+none_longer n next f h k [] b e = omega (arith, b.size)
 none_longer n next f h k (zero ∷ bs) b e = h bs (shorter n 0 bs b) e
 none_longer n next f h k (suc zero ∷ bs) b e = k bs (shorter n 1 bs b) e
-none_longer n next f h k (suc (suc x) ∷ bs) b e = let l : suc (suc x) < 2 = b.bits.0 in omega arith
+none_longer n next f h k (suc (suc x) ∷ bs) b e = omega (arith, b.bits.0)
 
 -- some n bits lead to the symbol, or none do
 find : (n next : ℕ) (f : List ℕ → ℕ) → ((bs : List ℕ) × Bits n bs × (f bs ≡ next)) ⊎ None n next f
@@ -85,9 +82,9 @@ always_steps m prior bits =
     ]
 
 steps_once : (m : Map) → StepsOnce m
-steps_once m prior bits (Ok x) (Ok y) a b = ap Ok (a.2 ∙ sym b.2)
-steps_once m prior bits (Ok x) (Err e) a b = absurd (b a.0 a.1)
-steps_once m prior bits (Err e) (Ok y) a b = absurd (a b.0 b.1)
+steps_once m prior bits (Ok x) (Ok y) a b = search rules
+steps_once m prior bits (Ok x) (Err e) a b = search rules
+steps_once m prior bits (Err e) (Ok y) a b = search rules
 steps_once m prior bits (Err e) (Err f) a b = refl
 
 always_reads : (m : Map) → AlwaysReads m
@@ -134,11 +131,3 @@ defined m l =
       reads_once = reads_once m l;
       reads_steps = reads_steps m l;
     }
-
--- a step that was made, and what its reading answers
-pub back_read : (m : Map) → Lawful m → (prior next : ℕ) (bits before after : List ℕ) (r : Result (Unit {0}) ReadFault) → Steps m prior bits (Ok next) → Reads m prior next before after r → ReadsBack m prior bits before after r
-back_read m l prior next bits before after (Ok u) s a =
-    (s.0, s.1, a.0.size, (reads_steps m l prior next bits before after (Ok u) s a.0.size a).1)
-back_read m l prior next bits before after (Err NoSuchStep) s a = a.1 bits s.1 (sym s.2)
-back_read m l prior next bits before after (Err (Call e)) s a =
-    (λ h b k. a.0 (readable m l prior next bits before s k), a.1)

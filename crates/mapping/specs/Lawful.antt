@@ -1,20 +1,24 @@
 -- The four mappings are lawful.
-use Rattle.std.specs.Prelude.{◌≡◌, ℕ, ◌<◌, List, [], ◌∷◌, length, slice_index, slice_set, refl}
-use Rattle.std.proofs.Common.{◌∙◌, ap, sym, arith}
+use Rattle.std.specs.Prelude.{◌≡◌, ℕ, ◌<◌, List, [], ◌∷◌, length, slice_index, refl}
+use Rattle.std.proofs.Common.{◌∙◌, ap, sym, arith, rules}
+use Rattle.std.specs.List.{IsDistinct}
 use Rattle.bits.specs.Strings.{Bits}
 use Rattle.mapping.specs.Maps.{Lawful}
 use Rattle.mapping.specs.Mappings.{dbpsk, dqpsk, d8psk, gmsk, dbpsk_steps, dqpsk_steps, d8psk_steps}
 use Rattle.mapping.specs.Tables.{Table}
-use Rattle.mapping.specs.TablesLemmas.{table, lawful}
+use Rattle.mapping.specs.TablesLemmas.{lawful}
 
 pub dbpsk_table : Table 1 dbpsk_steps
-dbpsk_table = table 1 dbpsk_steps refl
+unfolding IsDistinct
+dbpsk_table = search rules
 
 pub dqpsk_table : Table 2 dqpsk_steps
-dqpsk_table = table 2 dqpsk_steps refl
+unfolding IsDistinct
+dqpsk_table = search rules
 
 pub d8psk_table : Table 3 d8psk_steps
-d8psk_table = table 3 d8psk_steps refl
+unfolding IsDistinct
+d8psk_table = search rules
 
 pub dbpsk_lawful : Lawful dbpsk
 dbpsk_lawful = lawful 1 dbpsk_steps dbpsk_table
@@ -27,9 +31,9 @@ d8psk_lawful = lawful 3 d8psk_steps d8psk_table
 
 -- a string of one bit is that bit
 pub one_bit : (bs : List ℕ) → Bits 1 bs → bs ≡ slice_index bs 0 ∷ []
-one_bit [] b = let e : ◌≡◌ {A = ℕ} 0 1 = b.size in absurd (omega arith)
+one_bit [] b = absurd (omega (arith, b.size))
 one_bit (x ∷ []) b = refl
-one_bit (x ∷ y ∷ bs) b = let e : length (x ∷ y ∷ bs) ≡ 1 = b.size in absurd (omega arith)
+one_bit (x ∷ y ∷ bs) b = absurd (omega (arith, b.size))
 
 first_below : (bs : List ℕ) → Bits 1 bs → slice_index bs 0 < 2
 first_below [] b = omega arith
@@ -45,9 +49,3 @@ gmsk_lawful =
       below = λ s bs hs b. first_below bs b;
       apart = λ s bs cs hs b c e. one_bit bs b ∙ (ap (λ x. x ∷ []) e ∙ sym (one_bit cs c));
     }
-
--- a bit, written into the one place for it
-pub bit_written : (bs : List ℕ) (b : ℕ) → length bs ≡ 1 → b < 2 → Bits 1 (slice_set bs 0 b) × (slice_index (slice_set bs 0 b) 0 ≡ b)
-bit_written [] b l h = let e : ◌≡◌ {A = ℕ} 0 1 = l in absurd (omega arith)
-bit_written (x ∷ []) b l h = (record { size = refl; bits = (h, tt) }, refl)
-bit_written (x ∷ y ∷ bs) b l h = absurd (omega arith)

@@ -1,6 +1,6 @@
 // Mappings of bits to steps of the phase. Phases are numbered 0 to 15, in steps of π/8, and a step is added modulo 16.
-ghost use Rattle.std.specs.Prelude.{◌≡◌, ◌==◌, ◌+◌, ◌%◌, ◌<◌, ℕ, List, true, length, slice_index, refl, MatchOption};
-ghost use Rattle.std.specs.List.{AllByRecursion, position};
+ghost use Rattle.std.specs.Prelude.{◌≡◌, ◌<◌, ℕ, List, length, MatchOption, refl};
+ghost use Rattle.std.specs.List.{AllByRecursion};
 ghost use Rattle.mapping.specs.Mappings.{phases, dbpsk_steps, dqpsk_steps, d8psk_steps};
 ghost use Rattle.mapping.specs.Tables.{Table, Leads, NoneLeads};
 ghost use Rattle.mapping.specs.TablesLemmas.{lawful};
