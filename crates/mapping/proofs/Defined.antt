@@ -1,11 +1,10 @@
 -- Stepping and reading are functions, for every lawful mapping.
-use Rattle.std.proofs.Common.{◌≡◌, ℕ, zero, suc, ◌<◌, ◌⊎◌, List, [], ◌∷◌, length, Ok, Err, Result, sym, refl, ap, ◌∙◌, inl, inr, arith, rules}
+use Rattle.std.proofs.Common.{◌≡◌, ℕ, zero, suc, ◌<◌, ◌⊎◌, List, [], ◌∷◌, length, Ok, Err, sym, refl, ◌∙◌, inl, inr, arith, rules}
 use Rattle.std.proofs.lemmas.Bool.{cases_lt, cases_eq}
 use Rattle.bits.specs.Strings.{Bits}
-use Rattle.mapping.specs.declared.fault.ReadFault.{ReadFault}
 use Rattle.mapping.specs.declared.fault.ReadFault.TheVariants.{Call, NoSuchStep}
 use Rattle.mapping.specs.Maps.{Map, Lawful}
-use Rattle.mapping.specs.Answers.{Steps, Reads, Readable}
+use Rattle.mapping.specs.Answers.{Readable}
 use Rattle.mapping.specs.Laws.{AlwaysSteps, StepsOnce, AlwaysReads, ReadsOnce, ReadsSteps, LawfulIsDefined}
 
 -- one bit more in front, and one less
@@ -103,24 +102,19 @@ reads_once m l prior next before after other (Ok u) (Ok v) a b =
 reads_once m l prior next before after other (Ok u) (Err NoSuchStep) a b = absurd (b.1 after a.1 a.2)
 reads_once m l prior next before after other (Ok u) (Err (Call e)) a b = absurd (b.0 a.0)
 reads_once m l prior next before after other (Err NoSuchStep) (Ok v) a b = absurd (a.1 other b.1 b.2)
-reads_once m l prior next before after other (Err NoSuchStep) (Err NoSuchStep) a b = (refl, a.2 ∙ sym b.2)
+reads_once m l prior next before after other (Err NoSuchStep) (Err NoSuchStep) a b = search rules
 reads_once m l prior next before after other (Err NoSuchStep) (Err (Call e)) a b = absurd (b.0 a.0)
 reads_once m l prior next before after other (Err (Call e)) (Ok v) a b = absurd (a.0 b.0)
 reads_once m l prior next before after other (Err (Call e)) (Err NoSuchStep) a b = absurd (a.0 b.0)
-reads_once m l prior next before after other (Err (Call e)) (Err (Call f)) a b = (refl, a.1 ∙ sym b.1)
-
--- what a step leads to can be read into places for the bits of a symbol
-readable : (m : Map) → Lawful m → (prior next : ℕ) (bits before : List ℕ) → Steps m prior bits (Ok next) → length before ≡ m.w → Readable m prior next before
-readable m l prior next bits before s e =
-    let h : m.next prior bits < m.q = l.below prior bits s.0 s.1 in
-    let k : next ≡ m.next prior bits = s.2 in
-    record { from = s.0; to = omega arith; size = e }
+reads_once m l prior next before after other (Err (Call e)) (Err (Call f)) a b = search rules
 
 reads_steps : (m : Map) → Lawful m → ReadsSteps m
 reads_steps m l prior next bits before after (Ok u) s e r =
     (refl, l.apart prior after bits s.0 r.1 s.1 (r.2 ∙ s.2))
 reads_steps m l prior next bits before after (Err NoSuchStep) s e r = absurd (r.1 bits s.1 (sym s.2))
-reads_steps m l prior next bits before after (Err (Call b)) s e r = absurd (r.0 (readable m l prior next bits before s e))
+reads_steps m l prior next bits before after (Err (Call b)) s e r =
+    let h = l.below prior bits s.0 s.1 in
+    absurd (r.0 (record { from = s.0; to = omega (arith, h, s.2); size = e }))
 
 pub defined : LawfulIsDefined
 defined m l =

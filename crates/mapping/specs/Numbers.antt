@@ -15,9 +15,8 @@ same_after n m [] (y ∷ ys) a b l e = absurd (omega arith)
 same_after n m (x ∷ xs) [] a b l e = absurd (omega arith)
 same_after n m (x ∷ xs) (y ∷ ys) a b l e =
     let r = same_after (n * 2 + x) (m * 2 + y) xs ys a.1 b.1 (omega arith) e in
-    let p : n * 2 + x ≡ m * 2 + y = r.0 in let hx : x < 2 = a.0 in let hy : y < 2 = b.0 in
-    let q : n ≡ m = omega arith in let f : x ≡ y = omega arith in let g : xs ≡ ys = r.1 in
-    (q, cc)
+    let q : n ≡ m = omega (arith, r.0, a.0, b.0) in let f : x ≡ y = omega (arith, r.0, a.0, b.0) in
+    let g : xs ≡ ys = r.1 in (q, cc)
 
 pub same_number : (w : ℕ) (xs ys : List ℕ) → Bits w xs → Bits w ys → number_from_digits 2 xs ≡ number_from_digits 2 ys → xs ≡ ys
 same_number w xs ys a b e = (same_after 0 0 xs ys a.bits b.bits (a.size ∙ sym b.size) e).1

@@ -18,13 +18,14 @@ use fault::ReadFault;
 pub use gmsk::Gmsk;
 pub use phase::{D8psk, Dbpsk, Dqpsk, PhaseSteps};
 
-// A mapping. Its ghost member is the mapping as a value of the specs.
+// A mapping. Its ghost member `map` is the mapping as a value of the specs.
 pub trait Mapping: Copy {
     // the bits in a symbol, 1 to 3
     const W: usize;
     // the count of symbol numbers, 2 to 256
     const Q: usize;
 
+    // both, as values of the specs
     ghost W: { ℕ };
 
     ghost Q: { ℕ };
