@@ -1,6 +1,8 @@
 -- The remainder holds the remainder of D^12 times the message.
 use Rattle.std.proofs.Common.{◌≡◌, ℕ, zero, suc, ◌+◌, ◌*◌, ◌/◌, ◌%◌, ◌^◌, ◌<◌, List, [], ◌∷◌, length, sym, refl, ap, ◌∙◌, ap₂, mul_assoc, mul_comm, pow-suc, zero-mul, arith, pow_pos}
-use lib.Bits.{bit_xor, xor_assoc, xor_comm, xor_zero_r, xor_block, xor_shifted, xor_lt}
+use Rattle.std.specs.Prelude.{bit_xor}
+use Rattle.std.specs.Int.Bits.{xor_assoc, xor_zero_r, xor_shifted}
+use Rattle.std.proofs.lemmas.Nat.{xor_comm, xor_block, xor_lt}
 use Rattle.std.specs.List.{AllByRecursion}
 use Rattle.bits.specs.Strings.{Bit}
 use Rattle.block_code.specs.Bch.{pick, remainder, divided, product, parity, Divides}

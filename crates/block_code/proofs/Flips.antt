@@ -1,6 +1,8 @@
 -- Places turned round, and what the search for them shows.
 use Rattle.std.proofs.Common.{◌≡◌, ℕ, zero, suc, ◌+◌, ◌-◌, ◌*◌, ◌/◌, ◌%◌, ◌<◌, ◌≤◌, ◌≢◌, List, [], ◌∷◌, ◌++◌, length, get_or, take, drop, set, sym, refl, ap, ◌∙◌, ap₂, inl, inr, arith, length-append, length-drop, length-set, take-append-drop, length-take}
-use lib.Bits.{bit_xor, xor_assoc, xor_zero_r, xor_self, xor_lt, xor_block}
+use Rattle.std.specs.Prelude.{bit_xor}
+use Rattle.std.specs.Int.Bits.{xor_assoc, xor_zero_r, xor_self}
+use Rattle.std.proofs.lemmas.Nat.{xor_lt, xor_block}
 use Rattle.std.proofs.ByRecursion.{All-append, All-take, All-drop}
 use Rattle.std.proofs.lemmas.Bool.{cases_lt}
 use Rattle.std.proofs.lemmas.List.{get_or-set_other}

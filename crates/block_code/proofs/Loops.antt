@@ -1,10 +1,12 @@
 -- The steps of the loops.
-use Rattle.std.proofs.Common.{◌≡◌, ℕ, zero, suc, ◌+◌, ◌-◌, ◌*◌, ◌/◌, ◌%◌, ◌<◌, Bool, true, false, ◌&&◌, T, eqb, List, [], ◌∷◌, length, get_or, drop, sym, ap, ◌∙◌, ap₂, arith, eqb→eq, length-drop}
-use lib.Bits.{bit_xor, xor_assoc, xor_zero_r, xor_lt, bit_and, and_mask}
-use Rattle.std.proofs.lemmas.List.{at_drop_more}
+use Rattle.std.proofs.Common.{◌≡◌, ℕ, zero, suc, ◌+◌, ◌*◌, ◌/◌, ◌%◌, ◌<◌, Bool, true, false, ◌&&◌, T, eqb, List, [], ◌∷◌, ◌++◌, length, refl, get_or, drop, sym, ap, ◌∙◌, ap₂, arith, eqb→eq}
+use Rattle.std.specs.Prelude.{bit_and, bit_xor}
+use Rattle.std.specs.Int.Bits.{xor_zero_r}
+use Rattle.std.proofs.lemmas.Nat.{and_mask, xor_comm, xor_lt}
+use Rattle.std.proofs.lemmas.List.{append_assoc, at_drop_more}
 use Rattle.std.specs.List.{AllByRecursion}
 use Rattle.bits.specs.Strings.{Bit}
-use Rattle.block_code.specs.Bch.{pick, sum_at, power, times, divided, remainder}
+use Rattle.block_code.specs.Bch.{pick, sum_at, power, cubed, first, third, times, divided, remainder}
 
 -- the list has the powers from i on
 abbrev pub agrees : ℕ → List ℕ → Bool
@@ -32,20 +34,32 @@ bit_at [] h j = omega arith
 bit_at (x ∷ xs) h zero = h.0
 bit_at (x ∷ xs) h (suc j) = bit_at xs h.1 j
 
-module _ (f : ℕ → ℕ) (xs : List ℕ) (j s v : ℕ) (h : j < length xs) (e : bit_xor s (sum_at f (drop j xs)) ≡ v) where
-  more : (b i : ℕ) → get_or xs j 0 ≡ b → i + suc j ≡ length xs → bit_xor (bit_xor s (pick b (f i))) (sum_at f (drop (j + 1) xs)) ≡ v
-  more b i at l =
-      xor_assoc s (pick b (f i)) (sum_at f (drop (j + 1) xs))
-      ∙ ap (bit_xor s)
-      (ap₂ (λ y n. bit_xor (pick y (f n)) (sum_at f (drop (j + 1) xs))) (sym at) (omega (arith, length-drop (j + 1) xs))
-      ∙ sym (at_drop_more (sum_at f) xs j 0 h))
-      ∙ e
+-- the bits behind those that are left, n of them, have the sums s and t
+pub record Summed (bits left : List ℕ) (n s t : ℕ) : Type 0 where
+  pub seen : List ℕ
+  pub all : bits ≡ left ++ seen
+  pub count : n ≡ length seen
+  pub first_is : s ≡ first seen
+  pub third_is : t ≡ third seen
 
-  pub sum-set : (i : ℕ) → get_or xs j 0 ≡ 1 → i + suc j ≡ length xs → bit_xor (bit_xor s (f i)) (sum_at f (drop (j + 1) xs)) ≡ v
-  sum-set i at l = more 1 i at l
+-- the next bit from the back, which is set
+pub sum_set : {bits before left : List ℕ} {b n m i s t u v : ℕ} → Summed bits before n s t → before ≡ left ++ b ∷ [] → (b ≡ 0 → ⊥)
+    → i ≡ n → m ≡ n + 1 → u ≡ power i → v ≡ cubed i → Summed bits left m (bit_xor s u) (bit_xor t v)
+sum_set {left = left} {b} {i = i} {s} {t} {u} {v} S e set at next eu ev =
+    record {
+      seen = b ∷ S.seen;
+      all = S.all ∙ ap (λ x. x ++ S.seen) e ∙ append_assoc left (b ∷ []) S.seen;
+      count = omega (arith, S.count);
+      first_is = more power s u S.first_is eu;
+      third_is = more cubed t v S.third_is ev;
+    }
+  where
+    picked : (b c : ℕ) → (b ≡ 0 → ⊥) → c ≡ pick b c
+    picked zero c h = absurd (h refl)
+    picked (suc b) c h = refl
 
-  pub sum_clear : get_or xs j 0 ≡ 0 → bit_xor s (sum_at f (drop (j + 1) xs)) ≡ v
-  sum_clear at = ap (λ x. bit_xor x (sum_at f (drop (j + 1) xs))) (sym (xor_zero_r s)) ∙ more 0 (length xs - suc j) at (omega arith)
+    more : (f : ℕ → ℕ) (r x : ℕ) → r ≡ sum_at f S.seen → x ≡ f i → bit_xor r x ≡ sum_at f (b ∷ S.seen)
+    more f r x er ex = xor_comm r x ∙ ap₂ bit_xor (ex ∙ ap f (at ∙ S.count) ∙ picked b (f (length S.seen)) set) er
 
 -- the table of the code
 abbrev pub entries : List ℕ

@@ -7,9 +7,9 @@ ghost use Rattle.std.proofs.Common.{arith};
 ghost use Rattle.block_code.specs.Words.{length-parity};
 ghost use Rattle.block_code.specs.Distance.{law, bits_parity};
 
-use super::code::BlockCode;
+use super::code::{BlockCode, expect_string};
 use super::fault::CorrectFault;
-use bits::{BadCall, is_string, put_bits};
+use bits::{BadCall, put_bits};
 
 // The powers of D reduced by 1 + D + D^6, from D^0 to D^62.
 const POWERS: [u8; 63] = [
@@ -39,16 +39,14 @@ impl Bch63 {
     }
 
     // The two sums over the set powers of 63 bits. Both are zero exactly of a word.
+    #[tactic(auto, using(crate::proofs::Flips::vanish, crate::proofs::Flips::only))]
     pub fn syndromes(&self, bits: &[u8]) -> Result<(u8, u8), BadCall>
         ensures sums { Sums bits.now result }
         ensures vanish { Vanish }
         ensures only { Only }
     {
-        if is_string(bits, 63) {
-            Ok(sums(bits))
-        } else {
-            Err(BadCall)
-        }
+        expect_string(bits, 63)?;
+        Ok(sums(bits))
     }
 }
 
@@ -77,7 +75,8 @@ impl BlockCode for Bch63 {
     }
 
     fn encode(&self, message: &[u8], parity: &mut [u8]) -> Result<(), BadCall> {
-        if !is_string(message, 51) || parity.len() != 12 {
+        expect_string(message, 51)?;
+        if parity.len() != 12 {
             return Err(BadCall);
         }
         put_bits(u64::from(remainder(message)), parity);
@@ -85,10 +84,7 @@ impl BlockCode for Bch63 {
     }
 
     fn correct(&self, bits: &mut [u8]) -> Result<usize, CorrectFault> {
-        if !is_string(bits, 63) {
-            return Err(CorrectFault::Call(BadCall));
-        }
-        let (s, t) = sums(bits);
+        let (s, t) = self.syndromes(bits)?;
         if s == 0 && t == 0 {
             return Ok(0);
         }
@@ -144,9 +140,8 @@ fn sums(bits: &[u8]) -> (u8, u8)
 {
     let mut s = 0;
     let mut t = 0;
-    for (j, b) in bits.iter().enumerate() {
-        if *b == 1 {
-            let i = 62 - j;
+    for (i, b) in bits.iter().rev().enumerate() {
+        if *b != 0 {
             s ^= power_of(i);
             t ^= cube_of(i);
         }
@@ -158,26 +153,18 @@ fn sums(bits: &[u8]) -> (u8, u8)
 fn single(s: u8, t: u8) -> Option<usize>
     ensures { MatchOption result ((k : ℕ) → k < 63 → Fits1 s t k → ⊥) (λ i. (i < 63) × Fits1 s t i) }
 {
-    for i in 0..63 {
-        if power_of(i) == s && cube_of(i) == t {
-            return Some(i);
-        }
-    }
-    None
+    (0..63).find(|i| power_of(*i) == s && cube_of(*i) == t)
 }
 
 // The two powers whose sums are these, the higher first.
 fn double(s: u8, t: u8) -> Option<(usize, usize)>
     ensures { MatchOption result ((k l : ℕ) → k < 63 → l < k → Fits2 s t k l → ⊥) (λ p. (p.0 < 63) × (p.1 < p.0) × Fits2 s t p.0 p.1) }
 {
-    let mut found = None;
-    'search: for i in 0..63 {
-        for j in 0..i {
-            if power_of(i) ^ power_of(j) == s && cube_of(i) ^ cube_of(j) == t {
-                found = Some((i, j));
-                break 'search;
-            }
+    for i in 0..63 {
+        let (p, c) = (power_of(i), cube_of(i));
+        if let Some(j) = (0..i).find(|j| p ^ power_of(*j) == s && c ^ cube_of(*j) == t) {
+            return Some((i, j));
         }
     }
-    found
+    None
 }

@@ -1,9 +1,10 @@
-ghost use Rattle.std.specs.Prelude.{◌≡◌};
+ghost use Rattle.std.specs.Prelude.{◌≡◌, MatchResult};
+ghost use Rattle.bits.specs.Strings.{Bits};
 ghost use Rattle.block_code.specs.Codes.{Code, Lawful};
 ghost use Rattle.block_code.specs.Answers.{Encodes, Corrects};
 
 use super::fault::CorrectFault;
-use bits::BadCall;
+use bits::{BadCall, is_string};
 
 // A block code. Its ghost member is the code as a value of the specs; it may depend on the value, as that of a
 // shortened code does.
@@ -29,4 +30,15 @@ pub trait BlockCode: Copy {
         ensures { Corrects (code self.now) bits.old bits.new result };
 
     ghost lawful: { (c : Self) → Lawful (code c) };
+}
+
+// Refuses what is no string of n bits.
+pub(crate) fn expect_string(xs: &[u8], n: usize) -> Result<(), BadCall>
+    ensures { MatchResult result (λ _. Bits n xs.now) (λ _. Bits n xs.now → ⊥) }
+{
+    if is_string(xs, n) {
+        Ok(())
+    } else {
+        Err(BadCall)
+    }
 }

@@ -1,9 +1,9 @@
 ghost use Rattle.block_code.specs.Plain.{plain};
 ghost use Rattle.block_code.specs.Unprotected;
 
-use super::code::BlockCode;
+use super::code::{BlockCode, expect_string};
 use super::fault::CorrectFault;
-use bits::{BadCall, is_string};
+use bits::BadCall;
 
 // 51 message bits and no parity: every string of 51 bits is a word.
 #[derive(Clone, Copy)]
@@ -27,16 +27,15 @@ impl BlockCode for Plain {
     }
 
     fn encode(&self, message: &[u8], parity: &mut [u8]) -> Result<(), BadCall> {
-        if !is_string(message, 51) || parity.len() != 0 {
+        expect_string(message, 51)?;
+        if parity.len() != 0 {
             return Err(BadCall);
         }
         Ok(())
     }
 
     fn correct(&self, bits: &mut [u8]) -> Result<usize, CorrectFault> {
-        if !is_string(bits, 51) {
-            return Err(CorrectFault::Call(BadCall));
-        }
+        expect_string(bits, 51)?;
         Ok(0)
     }
 }
