@@ -114,18 +114,17 @@ padded z n ys h e =
     ap (drop n) (drop-replicate z 63 0) ∙ drop-replicate n (63 - z) 0 ∙ ap (λ k. replicate k 0) (omega arith) in
     ap₂ (λ p q. p ++ (ys ++ q)) a b ∙ sym (append_assoc (replicate z 0) ys (replicate (63 - (z + length ys)) 0))
 
--- what the code holds: the numbers of the full code, how many bits are unsent, the heard bits and the places
-module _ (c : Code) (L : Lawful c) (s : ℕ) (lt : s < c.k) (k p z : ℕ) (ek : k ≡ c.k) (ep : p ≡ c.p) (es : z ≡ s)
-    (ys F : List ℕ) (Y : Bits (k + p - z) ys) (eF : F ≡ (replicate z 0 ++ ys) ++ replicate (63 - (z + length ys)) 0) where
+-- what the code holds: how many bits are unsent, the numbers of the full code, the heard bits and the places
+module _ {c : Code} {s k p : ℕ} {ys F : List ℕ} (L : Lawful c) (lt : s < c.k) (ek : k ≡ c.k) (ep : p ≡ c.p)
+    (Y : Bits (k + p - s) ys) (eF : F ≡ (replicate s 0 ++ ys) ++ replicate (63 - (s + length ys)) 0) where
   heard : Bits (c.k - s + c.p) ys
   heard = record { size = omega (arith, Y.size); bits = Y.bits }
 
   given_is : take (k + p - 0) F ≡ replicate s 0 ++ ys
   given_is =
       ap (take (k + p - 0)) eF
-      ∙ take_at (replicate z 0 ++ ys) (replicate (63 - (z + length ys)) 0) (k + p - 0)
-      (omega (arith, length-append (replicate z 0) ys, length-replicate {A = ℕ} z 0, Y.size))
-      ∙ ap (λ x. replicate x 0 ++ ys) es
+      ∙ take_at (replicate s 0 ++ ys) (replicate (63 - (s + length ys)) 0) (k + p - 0)
+      (omega (arith, length-append (replicate s 0) ys, length-replicate {A = ℕ} s 0, Y.size))
 
   pub refusing : (after : List ℕ) (f : CorrectFault) → Corrects c (take (k + p - 0) F) after (Err f) → Corrects (shortened c s) ys ys (Err f)
   refusing after f e = refused_full c L s lt ys after f heard (subst (λ xs. Corrects c xs after (Err f)) given_is e)
@@ -138,39 +137,37 @@ module _ (c : Code) (L : Lawful c) (s : ℕ) (lt : s < c.k) (k p z : ℕ) (ek : 
     size = ap length K.is ∙ length-word c L K.message K.valid
 
     -- the unsent places, and the others
-    front : take (z - 0) (after ++ drop (k + p - 0) F) ≡ take s after
+    front : take (s - 0) (after ++ drop (k + p - 0) F) ≡ take s after
     front = ap (λ x. take x (after ++ drop (k + p - 0) F)) (omega arith) ∙ take-append-le s after (drop (k + p - 0) F) (omega (arith, size))
 
-    back : take (k + p - z) (drop z (after ++ drop (k + p - 0) F)) ≡ drop s after
+    back : take (k + p - s) (drop s (after ++ drop (k + p - 0) F)) ≡ drop s after
     back =
-        ap (take (k + p - z)) (drop-append-le z after (drop (k + p - 0) F) (omega (arith, size)))
-        ∙ take_at (drop z after) (drop (k + p - 0) F) (k + p - z) (omega (arith, length-drop z after, size))
-        ∙ ap (λ x. drop x after) es
+        ap (take (k + p - s)) (drop-append-le s after (drop (k + p - 0) F) (omega (arith, size)))
+        ∙ take_at (drop s after) (drop (k + p - 0) F) (k + p - s) (omega (arith, length-drop s after, size))
 
-    long : length (take (z - 0) (after ++ drop (k + p - 0) F)) ≡ s
+    long : length (take (s - 0) (after ++ drop (k + p - 0) F)) ≡ s
     long = ap length front ∙ length-take-le s after (omega (arith, size))
 
-    pub striking : (take (z - 0) (after ++ drop (k + p - 0) F) ≢ replicate (length (take (z - 0) (after ++ drop (k + p - 0) F))) 0)
+    pub striking : (take (s - 0) (after ++ drop (k + p - 0) F) ≢ replicate (length (take (s - 0) (after ++ drop (k + p - 0) F))) 0)
         → Corrects (shortened c s) ys ys (Err NoWordNear)
     striking ones =
         (heard, far_ones c L s lt ys after n (omega (arith, heard.size)) K (λ zeros. ones (front ∙ zeros ∙ ap (λ x. replicate x 0) (sym long))), refl)
 
-    pub correcting : take (z - 0) (after ++ drop (k + p - 0) F) ≡ replicate (length (take (z - 0) (after ++ drop (k + p - 0) F))) 0
-        → (zs : List ℕ) → zs ≡ take (k + p - z) (drop z (after ++ drop (k + p - 0) F)) → Corrects (shortened c s) ys zs (Ok n)
+    pub correcting : take (s - 0) (after ++ drop (k + p - 0) F) ≡ replicate (length (take (s - 0) (after ++ drop (k + p - 0) F))) 0
+        → (zs : List ℕ) → zs ≡ take (k + p - s) (drop s (after ++ drop (k + p - 0) F)) → Corrects (shortened c s) ys zs (Ok n)
     correcting zeros zs ez = (
       heard,
       subst (λ xs. Corrected (shortened c s) ys xs n) (sym (ez ∙ back))
           (corrected_full c L s lt ys after n (omega (arith, heard.size)) K (sym front ∙ zeros ∙ ap (λ x. replicate x 0) long)),
     )
 
-module _ (c : Code) (L : Lawful c) (s : ℕ) (lt : s < c.k) (k z : ℕ) (ek : k ≡ c.k) (es : z ≡ s)
-    (m F : List ℕ) (M : Bits (k - z) m) (eF : F ≡ (replicate z 0 ++ m) ++ replicate (63 - (z + length m)) 0) where
+module _ {c : Code} {s k : ℕ} {m F : List ℕ} (L : Lawful c) (lt : s < c.k) (ek : k ≡ c.k)
+    (M : Bits (k - s) m) (eF : F ≡ (replicate s 0 ++ m) ++ replicate (63 - (s + length m)) 0) where
   pub encoding : (before after : List ℕ) (r : Result (Unit {0}) BadCall) → Encodes c (take (k - 0) F) before after r
       → Encodes (shortened c s) m before after r
   encoding before after r e =
       encodes_full c L s lt m before after r (record { size = omega (arith, M.size); bits = M.bits })
       (subst (λ xs. Encodes c xs before after r)
       (ap (take (k - 0)) eF
-      ∙ take_at (replicate z 0 ++ m) (replicate (63 - (z + length m)) 0) (k - 0)
-      (omega (arith, length-append (replicate z 0) m, length-replicate {A = ℕ} z 0, M.size))
-      ∙ ap (λ x. replicate x 0 ++ m) es) e)
+      ∙ take_at (replicate s 0 ++ m) (replicate (63 - (s + length m)) 0) (k - 0)
+      (omega (arith, length-append (replicate s 0) m, length-replicate {A = ℕ} s 0, M.size))) e)

@@ -125,6 +125,8 @@ fn refuses_bad_calls(rt: HostRuntime) {
 fn keeps_unsent_bits(rt: HostRuntime) -> Result<(), Fail> {
     let short = Shortened::new(Bch63, 32)?;
     assert_eq!(rt; short.message_bits(), 19);
+    assert_eq!(rt; short.unsent(), 32);
+    assert_eq!(rt; short.clone()?.unsent(), 32);
     let mut full = [0u8; 63];
     full[40] = 1;
     full[59] = 1;
