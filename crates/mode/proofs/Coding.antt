@@ -1,5 +1,5 @@
 -- Writing the words of a part, copies of their bits, and the symbols of these, one after the other.
-use Rattle.std.proofs.Common.{◌≡◌, ℕ, suc, ◌+◌, ◌-◌, ◌*◌, ◌<◌, ◌≤◌, min, List, [], ◌∷◌, ◌++◌, length, get_or, take, drop, set, replicate, sym, refl, ap, ◌∙◌, mul-le-mul_right, mul-le-mul_left, arith}
+use Rattle.std.proofs.Common.{◌≡◌, ℕ, suc, ◌+◌, ◌-◌, ◌*◌, ◌<◌, ◌≤◌, List, [], ◌∷◌, ◌++◌, length, get_or, take, drop, set, replicate, sym, refl, ap, ◌∙◌, mul-le-mul_right, mul-le-mul_left, arith}
 use borrow.Rule.Slice.PartMut.{put_mid}
 use Rattle.std.specs.List.{AllByRecursion}
 use Rattle.std.proofs.lemmas.List.{append-nil, append_assoc, drop_all, take_at, length-append, length-drop, drop-drop, take_all, length-take, take_more, take_more_set, length-set}
@@ -25,12 +25,6 @@ put_end a k xs ys l =
 
 pub put_two : (a : ℕ) (ms os ps : List ℕ) → length ms ≡ a → put_mid a (length (ms ++ os) - a) (ms ++ os) ps ≡ ms ++ ps
 put_two a ms os ps e = put_end a (length (ms ++ os) - a) (ms ++ os) ps (omega arith) ∙ ap (λ zs. zs ++ ps) (take_at ms os a e)
-
--- the parity that a shortened code gives, where it is held as the code has it
-pub put_parity : (c d : Code) (u v : ℕ) (ms ps : List ℕ) → d ≡ c → v ≡ u → u < c.k → ps ≡ (shortened d (min v (d.k - 1))).parity ms → ps ≡ (shortened c u).parity ms
-put_parity c d u v ms ps e f l h =
-    let q : min v (d.k - 1) ≡ u = omega (arith, ap (λ x. x.k) e) in
-    h ∙ ap (λ j. d.parity (replicate j 0 ++ ms)) q ∙ ap (λ x. x.parity (replicate u 0 ++ ms)) e
 
 -- where the loop has written i words: what is written, and what the words that are left have
 pub record Coding (c : Code) (xs os : List ℕ) (i from at : ℕ) : Type 0 where

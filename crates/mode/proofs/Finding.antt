@@ -1,5 +1,5 @@
 -- A word is found exactly when some word has at most t spoilt bits; and the words of a part, one after the other.
-use Rattle.std.proofs.Common.{◌≡◌, ℕ, zero, suc, ◌+◌, ◌-◌, ◌*◌, ◌<◌, ◌≤◌, min, List, [], ◌∷◌, ◌++◌, length, get_or, take, drop, Err, sym, refl, ap, ◌∙◌, inl, inr, mul-le-mul_left, arith}
+use Rattle.std.proofs.Common.{◌≡◌, ℕ, zero, suc, ◌+◌, ◌-◌, ◌*◌, ◌<◌, ◌≤◌, List, [], ◌∷◌, ◌++◌, length, get_or, take, drop, Err, sym, refl, ap, ◌∙◌, inl, inr, mul-le-mul_left, arith}
 use Rattle.std.specs.List.{AllByRecursion}
 use Rattle.std.proofs.lemmas.List.{length-take-le, length-drop, length-append, append_assoc, drop-drop, drop_all, take_all, take_more, take-append-drop, take-append-le, drop-append-le, nil_from_length}
 use Rattle.std.proofs.ByRecursion.{All-append}
@@ -53,12 +53,6 @@ module _ (c : Code) (L : codes.Lawful c) (s : ℕ) (es : List ℕ) (p : 0 < s) (
 
     pub found_word : (r : ℕ) → r ≡ spoilt s after es → r ≤ c.t → (x : List ℕ) × NearWord c s es x r × (after ≡ word c x)
     found_word r e l = (h.message, record { valid = h.valid; count = ap (λ w. spoilt s w es) (sym h.is) ∙ sym e; within = l }, h.is)
-
--- a shortened code, where it is held as the code has it
-pub short_is : (c d : Code) (u v : ℕ) → d ≡ c → v ≡ u → u < c.k → shortened d (min v (d.k - 1)) ≡ shortened c u
-short_is c d u v e f l =
-    let q : min v (d.k - 1) ≡ u = omega (arith, ap (λ x. x.k) e) in
-    ap (shortened d) q ∙ ap (λ x. shortened x u) e
 
 -- the message at the front of a word
 module _ (c : Code) (s : ℕ) (es x ws : List ℕ) (n : ℕ) (h : NearWord c s es x n) (e : ws ≡ word c x) where
