@@ -1,33 +1,22 @@
 -- The steps of the loops.
-use Rattle.std.proofs.Common.{◌≡◌, ℕ, zero, suc, ◌+◌, ◌*◌, ◌/◌, ◌%◌, ◌<◌, Bool, true, false, ◌&&◌, T, eqb, List, [], ◌∷◌, ◌++◌, length, refl, get_or, drop, sym, ap, ◌∙◌, ap₂, arith, eqb→eq}
-use Rattle.std.specs.Prelude.{bit_and, bit_xor}
+use Rattle.std.proofs.Common.{◌≡◌, ℕ, zero, suc, ◌+◌, ◌*◌, ◌/◌, ◌%◌, ◌<◌, T, List, [], ◌∷◌, ◌++◌, length, refl, get_or, drop, sym, ap, ◌∙◌, ap₂, arith, eqb→eq}
+use Rattle.std.specs.Prelude.{bit_and, bit_xor, nat_eq, slice_index}
 use Rattle.std.specs.Int.Bits.{xor_zero_r}
 use Rattle.std.proofs.lemmas.Nat.{and_mask, xor_comm, xor_lt}
 use Rattle.std.proofs.lemmas.List.{append_assoc, at_drop_more}
 use Rattle.std.specs.List.{AllByRecursion}
 use Rattle.bits.specs.Strings.{Bit}
+use Rattle.block_code.specs.declared.bch63.TheConstants.{POWERS}
+use Rattle.block_code.specs.Pairs.{all_below, at_below}
 use Rattle.block_code.specs.Bch.{pick, sum_at, power, cubed, first, third, times, divided, remainder}
 
--- the list has the powers from i on
-abbrev pub agrees : ℕ → List ℕ → Bool
-agrees i [] = true
-agrees i (x ∷ xs) = eqb x (power i) && agrees (suc i) xs
+-- the table of the code has the powers
+table_right : T (all_below (λ k. nat_eq (slice_index POWERS k) (power k)) 63)
+unfolding all_below power times
+table_right = tt
 
-and_l : (a b : Bool) → T (a && b) → T a
-and_l true b h = tt
-and_l false b h = h
-
-and_r : (a b : Bool) → T (a && b) → T b
-and_r true b h = h
-and_r false b h = absurd h
-
-from : (xs : List ℕ) (i : ℕ) → T (agrees i xs) → (k : ℕ) → k < length xs → get_or xs k 0 ≡ power (i + k)
-from [] i t k h = absurd (omega arith)
-from (x ∷ xs) i t zero h = eqb→eq x (power i) (and_l (eqb x (power i)) (agrees (suc i) xs) t) ∙ ap power (omega arith)
-from (x ∷ xs) i t (suc k) h = from xs (suc i) (and_r (eqb x (power i)) (agrees (suc i) xs) t) k (omega arith) ∙ ap power (omega arith)
-
-pub table_at : (xs : List ℕ) → T (agrees 0 xs) → (k : ℕ) → k < length xs → get_or xs k 0 ≡ power k
-table_at xs t k h = from xs 0 t k h ∙ ap power (omega arith)
+pub table_at : (k : ℕ) → k < 63 → slice_index POWERS k ≡ power k
+table_at k h = eqb→eq (slice_index POWERS k) (power k) (at_below (λ k. nat_eq (slice_index POWERS k) (power k)) 63 table_right k h)
 
 pub bit_at : (xs : List ℕ) → AllByRecursion Bit xs → (j : ℕ) → get_or xs j 0 < 2
 bit_at [] h j = omega arith
@@ -60,16 +49,6 @@ sum_set {left = left} {b} {i = i} {s} {t} {u} {v} S e set at next eu ev =
 
     more : (f : ℕ → ℕ) (r x : ℕ) → r ≡ sum_at f S.seen → x ≡ f i → bit_xor r x ≡ sum_at f (b ∷ S.seen)
     more f r x er ex = xor_comm r x ∙ ap₂ bit_xor (ex ∙ ap f (at ∙ S.count) ∙ picked b (f (length S.seen)) set) er
-
--- the table of the code
-abbrev pub entries : List ℕ
-entries =
-    1 ∷ 2 ∷ 4 ∷ 8 ∷ 16 ∷ 32 ∷ 3 ∷ 6 ∷ 12 ∷ 24 ∷ 48 ∷ 35 ∷ 5 ∷ 10 ∷ 20 ∷ 40 ∷ 19 ∷ 38 ∷ 15 ∷ 30 ∷ 60 ∷ 59 ∷ 53 ∷ 41 ∷ 17 ∷ 34 ∷ 7 ∷ 14 ∷ 28 ∷ 56 ∷ 51 ∷ 37
-    ∷ 9 ∷ 18 ∷ 36 ∷ 11 ∷ 22 ∷ 44 ∷ 27 ∷ 54 ∷ 47 ∷ 29 ∷ 58 ∷ 55 ∷ 45 ∷ 25 ∷ 50 ∷ 39 ∷ 13 ∷ 26 ∷ 52 ∷ 43 ∷ 21 ∷ 42 ∷ 23 ∷ 46 ∷ 31 ∷ 62 ∷ 63 ∷ 61 ∷ 57 ∷ 49 ∷ 33 ∷ []
-
-pub entries_right : T (agrees 0 entries)
-unfolding power times
-entries_right = tt
 
 -- ---- the remainder
 

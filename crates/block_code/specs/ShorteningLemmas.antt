@@ -1,7 +1,6 @@
 -- A shortened code is lawful, and what the full code corrects with the zeros in front.
 use Rattle.std.specs.Prelude.{◌≡◌, ℕ, ◌+◌, ◌-◌, ◌*◌, ◌<◌, ◌≤◌, List, ◌++◌, length, take, drop, replicate, Ok, Err, Result, ◌≢◌, refl}
 use Rattle.std.proofs.Common.{ap, ap₂, sym, ◌∙◌, subst, inl, inr, arith, length-append, length-drop, take-append-drop}
-use borrow.Rule.Slice.PartMut.{put_mid}
 use Rattle.std.proofs.ByRecursion.{All-append, All-drop}
 use Rattle.std.proofs.lemmas.Bool.{cases_lt}
 use Rattle.std.proofs.lemmas.List.{append_assoc, append_cancel_left, take_at, drop_at, take-append-le, drop-append-le, length-take-le, take-replicate, drop-replicate, length-replicate}
@@ -107,7 +106,7 @@ module _ (c : Code) (L : Lawful c) (s : ℕ) (lt : s < c.k) where
 -- ---- the 63 places in which it works
 
 pub padded : (z n : ℕ) (ys : List ℕ) → z + length ys ≤ 63 → n ≡ length ys
-    → put_mid z n (replicate 63 0) ys ≡ (replicate z 0 ++ ys) ++ replicate (63 - (z + length ys)) 0
+    → take z (replicate 63 0) ++ (ys ++ drop n (drop z (replicate 63 0))) ≡ (replicate z 0 ++ ys) ++ replicate (63 - (z + length ys)) 0
 padded z n ys h e =
     let a : take z (replicate 63 0) ≡ replicate {A = ℕ} z 0 = take-replicate z 63 0 (omega arith) in
     let b : drop n (drop z (replicate 63 0)) ≡ replicate {A = ℕ} (63 - (z + length ys)) 0 =

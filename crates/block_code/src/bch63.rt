@@ -108,7 +108,7 @@ fn remainder(message: &[u8]) -> u16
 {
     let mut r: u16 = 0;
     for b in message {
-        let top = (r >> 11) & 1 ^ *b as u16;
+        let top = (r >> 11) & 1 ^ u16::from(*b);
         r = (r << 1) & 0xfff;
         if top == 1 {
             r ^= 0b0101_0011_1001;

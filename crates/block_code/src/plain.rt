@@ -28,7 +28,7 @@ impl BlockCode for Plain {
 
     fn encode(&self, message: &[u8], parity: &mut [u8]) -> Result<(), BadCall> {
         expect_string(message, 51)?;
-        if parity.len() != 0 {
+        if !parity.is_empty() {
             return Err(BadCall);
         }
         Ok(())

@@ -16,6 +16,7 @@ pub struct Shortened<C: BlockCode> {
     ghost short: { unsent < (C.BlockCode.code code).k },
 }
 
+// By hand, since `Clone` cannot be derived where a ghost field stands.
 impl<C: BlockCode> Clone for Shortened<C> {
     ghost is_clone = { λ x y. y ≡ x };
 

@@ -5,7 +5,7 @@ use std::test::Fail;
 // Writes bits that look random.
 fn fill(bits: &mut [u8], seed: u8) {
     let mut x = seed;
-    for bit in bits.iter_mut() {
+    for bit in bits {
         x = x.wrapping_mul(77).wrapping_add(31);
         *bit = (x >> 7) & 1;
     }
@@ -14,28 +14,18 @@ fn fill(bits: &mut [u8], seed: u8) {
 // Spoils the bits at some places.
 fn spoil(bits: &mut [u8], places: &[usize]) {
     for place in places {
-        if *place < bits.len() {
-            bits[*place] ^= 1;
+        if let Some(bit) = bits.get_mut(*place) {
+            *bit ^= 1;
         }
-    }
-}
-
-// Copies bits to a place of others.
-fn put(all: &mut [u8], at: usize, bits: &[u8]) {
-    if at <= all.len() && bits.len() <= all.len() - at {
-        all[at..at + bits.len()].copy_from_slice(bits);
     }
 }
 
 // A word of the code 63/51 whose message looks random.
 fn word_of(seed: u8) -> Result<[u8; 63], Fail> {
-    let mut message = [0u8; 51];
-    fill(&mut message, seed);
-    let mut parity = [0u8; 12];
-    Bch63.encode(&message, &mut parity)?;
     let mut word = [0u8; 63];
-    put(&mut word, 0, &message);
-    put(&mut word, 51, &parity);
+    let (message, parity) = word.split_at_mut(51);
+    fill(message, seed);
+    Bch63.encode(message, parity)?;
     Ok(word)
 }
 
@@ -128,10 +118,7 @@ fn keeps_unsent_bits(rt: HostRuntime) -> Result<(), Fail> {
     assert_eq!(rt; short.unsent(), 32);
     assert_eq!(rt; short.clone()?.unsent(), 32);
     let mut full = [0u8; 63];
-    full[40] = 1;
-    full[59] = 1;
-    full[61] = 1;
-    full[62] = 1;
+    spoil(&mut full, &[40, 59, 61, 62]);
     let mut heard = [0u8; 31];
     heard.copy_from_slice(&full[32..63]);
     assert!(rt; Bch63.correct(&mut full) == Ok(1));

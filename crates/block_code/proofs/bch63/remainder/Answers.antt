@@ -18,10 +18,10 @@ loop-b-preserved c =
     elim c.if-top-eq1.branch [
       | then-top-eq1 w ↦
           again xs i r c.if-top-eq1.r c.loop-b-test.true
-          (w.r-is ∙ divided_one r (get_or xs i 0) c.loop-b.invariant.1 b w.if-top-eq1.true) c.loop-b.invariant.0
+          (w.r-is ∙ divided_one r (get_or xs i 0) c.loop-b.invariant.1 b (rw c.from.ensures at w.if-top-eq1.true)) c.loop-b.invariant.0
       | else-top-eq1 w ↦
           again xs i r c.if-top-eq1.r c.loop-b-test.true
-          (w.r-is ∙ divided_none r (get_or xs i 0) c.loop-b.invariant.1 b w.if-top-eq1.false) c.loop-b.invariant.0
+          (w.r-is ∙ divided_none r (get_or xs i 0) c.loop-b.invariant.1 b (rw c.from.ensures at w.if-top-eq1.false)) c.loop-b.invariant.0
     ]
 
 pub returns : goal.returns
