@@ -1,181 +1,89 @@
-use super::show::Digits;
-use super::symbols::Kind;
-use anyhow::anyhow;
+use super::show::{Digits, Refusal};
+use super::symbols::{Kind, bit};
 use block_code::Bch63;
 use mapping::{D8psk, Dbpsk, Dqpsk, Gmsk};
-use mode::{Carrier, Chain, Copies, HearFault};
+use mode::{Carrier, Chain, Choice, Copies, HearFault};
 use std::alloc::Global;
 use std::io;
 
 // The most symbols that the bits of one line take.
 const MOST: usize = 4_000;
 
-// The bits that are written as digits; none where another character stands among them.
-pub fn bits_of(heap: Global, text: &str) -> anyhow::Result<Vec<u8>> {
-    let mut bits = Vec::new(heap);
-    for digit in text.bytes() {
-        match digit {
-            b'0' => bits.push(0)?,
-            b'1' => bits.push(1)?,
-            _ => return Err(anyhow!("the bits are digits 0 and 1")),
-        }
-    }
-    Ok(bits)
+// Phases and GMSK, over the code 63/51.
+type AnyMode = Choice<
+    Choice<Chain<Bch63, Dbpsk>, Chain<Bch63, Dqpsk>>,
+    Choice<Chain<Bch63, D8psk>, Chain<Bch63, Gmsk>>,
+>;
+
+// A mode over the code 63/51.
+#[derive(Clone, Copy)]
+pub struct Mode {
+    pub kind: Kind,
+    pub copies: Copies,
 }
 
-// Sends bits after symbol 0: the list is that symbol and those of the bits.
-fn send_by<C: Carrier>(
-    rt: &impl Print,
-    carrier: &C,
-    bits: &[u8],
-    symbols: &mut [u8],
-    list: &mut Vec<u8>,
-) -> anyhow::Result<()> {
-    match carrier.send(0, bits, symbols) {
-        Ok(count) => {
-            if count > symbols.len() {
-                return Ok(());
+impl Mode {
+    fn over<M>(&self, mapping: M) -> Chain<Bch63, M> {
+        Chain {
+            code: Bch63,
+            copies: self.copies,
+            mapping,
+        }
+    }
+
+    fn carrier(&self) -> AnyMode {
+        match self.kind {
+            Kind::Dbpsk => Choice::First(Choice::First(self.over(Dbpsk))),
+            Kind::Dqpsk => Choice::First(Choice::Second(self.over(Dqpsk))),
+            Kind::D8psk => Choice::Second(Choice::First(self.over(D8psk))),
+            Kind::Gmsk => Choice::Second(Choice::Second(self.over(Gmsk))),
+        }
+    }
+
+    // Carries bits after symbol 0: the list is that symbol and those of the bits.
+    pub fn carry(
+        &self,
+        rt: &impl Print,
+        heap: Global,
+        bits: &[u8],
+        list: &mut Vec<u8>,
+    ) -> anyhow::Result<()> {
+        let mut symbols = vec![in heap; 0u8; MOST]?;
+        let count = match self.carrier().send(0, bits, &mut symbols) {
+            Ok(count) => count,
+            Err(bad) => return Ok(println!(rt; "{}", Refusal::from(bad))?),
+        };
+        let Some(sent) = symbols.get(..count) else {
+            return Ok(());
+        };
+        list.clear();
+        list.push(0)?;
+        list.extend_from_slice(sent)?;
+        println!(rt; "carried by {count} symbols after symbol 0")?;
+        Ok(())
+    }
+
+    // Hears so many bits from the list.
+    pub fn hear(&self, rt: &impl Print, heap: Global, list: &[u8], n: usize) -> anyhow::Result<()> {
+        let mut bits = vec![in heap; 0u8; n.min(MOST)]?;
+        match self.carrier().hear(list, 0, &mut bits) {
+            Ok(spoilt) => println!(rt; "heard   {}, spoilt bits {spoilt}", Digits(&bits))?,
+            Err(HearFault::Part(fault)) => {
+                println!(rt;
+                    "refused: number {}, place {}",
+                    fault.number(),
+                    fault.place()
+                )?
             }
-            list.clear();
-            list.push(0)?;
-            list.extend_from_slice(&symbols[0..count])?;
-            println!(rt; "carried by {count} symbols after symbol 0")?;
+            Err(HearFault::Call(bad)) => println!(rt; "{}", Refusal::from(bad))?,
         }
-        Err(_) => println!(rt; "refused: number 16, layer 1, place 0")?,
-    }
-    Ok(())
-}
-
-// Hears as many bits as there are places from the list.
-fn hear_by<C: Carrier>(
-    rt: &impl Print,
-    carrier: &C,
-    list: &[u8],
-    bits: &mut [u8],
-) -> io::Result<()> {
-    match carrier.hear(list, 0, bits) {
-        Ok(spoilt) => {
-            let digits = Digits(bits);
-            println!(rt; "heard   {digits}, spoilt bits {spoilt}")
-        }
-        Err(HearFault::Part(fault)) => {
-            let number = fault.number();
-            let place = fault.place();
-            println!(rt; "refused: number {number}, place {place}")
-        }
-        Err(HearFault::Call(_)) => println!(rt; "refused: number 16, layer 1, place 0"),
+        Ok(())
     }
 }
 
-// Carries bits by a mode over the code 63/51.
-pub fn carry(
-    rt: &impl Print,
-    heap: Global,
-    kind: Kind,
-    copies: Copies,
-    bits: &[u8],
-    list: &mut Vec<u8>,
-) -> anyhow::Result<()> {
-    let mut symbols = vec![in heap; 0u8; MOST]?;
-    match kind {
-        Kind::Dbpsk => send_by(
-            rt,
-            &Chain {
-                code: Bch63,
-                copies,
-                mapping: Dbpsk,
-            },
-            bits,
-            &mut symbols,
-            list,
-        ),
-        Kind::Dqpsk => send_by(
-            rt,
-            &Chain {
-                code: Bch63,
-                copies,
-                mapping: Dqpsk,
-            },
-            bits,
-            &mut symbols,
-            list,
-        ),
-        Kind::D8psk => send_by(
-            rt,
-            &Chain {
-                code: Bch63,
-                copies,
-                mapping: D8psk,
-            },
-            bits,
-            &mut symbols,
-            list,
-        ),
-        Kind::Gmsk => send_by(
-            rt,
-            &Chain {
-                code: Bch63,
-                copies,
-                mapping: Gmsk,
-            },
-            bits,
-            &mut symbols,
-            list,
-        ),
-    }
-}
-
-// Hears so many bits by a mode over the code 63/51.
-pub fn carried(
-    rt: &impl Print,
-    heap: Global,
-    kind: Kind,
-    copies: Copies,
-    n: usize,
-    list: &[u8],
-) -> anyhow::Result<()> {
-    let mut bits = vec![in heap; 0u8; n.min(MOST)]?;
-    match kind {
-        Kind::Dbpsk => hear_by(
-            rt,
-            &Chain {
-                code: Bch63,
-                copies,
-                mapping: Dbpsk,
-            },
-            list,
-            &mut bits,
-        )?,
-        Kind::Dqpsk => hear_by(
-            rt,
-            &Chain {
-                code: Bch63,
-                copies,
-                mapping: Dqpsk,
-            },
-            list,
-            &mut bits,
-        )?,
-        Kind::D8psk => hear_by(
-            rt,
-            &Chain {
-                code: Bch63,
-                copies,
-                mapping: D8psk,
-            },
-            list,
-            &mut bits,
-        )?,
-        Kind::Gmsk => hear_by(
-            rt,
-            &Chain {
-                code: Bch63,
-                copies,
-                mapping: Gmsk,
-            },
-            list,
-            &mut bits,
-        )?,
-    }
-    Ok(())
+// The bits that are written as digits.
+pub fn bits_of(heap: Global, text: &str) -> anyhow::Result<Vec<u8>> {
+    text.bytes()
+        .map(|digit| -> anyhow::Result<u8> { Ok(bit(digit)?) })
+        .try_collect(heap)
 }

@@ -53,7 +53,7 @@ fn act(rt: &HostRuntime, bench: &mut Bench, command: Command<'_>) -> anyhow::Res
         Command::Spoil(place) => bench.words.spoil(rt, place)?,
         Command::Correct => bench.words.correct(rt)?,
         Command::Full => bench.words.full(rt)?,
-        Command::Step(kind, prior, bits) => symbols::step(rt, kind, prior, bits)?,
+        Command::Step(kind, prior, bits) => symbols::step(rt, kind, prior, bits.as_slice())?,
         Command::Read(kind, prior, next) => symbols::read(rt, kind, prior, next)?,
         Command::Write(header) => bench.headers.write(rt, header)?,
         Command::SpoilHeader(place) => bench.headers.spoil(rt, place)?,
@@ -62,25 +62,21 @@ fn act(rt: &HostRuntime, bench: &mut Bench, command: Command<'_>) -> anyhow::Res
         Command::Retune(channel) => bench.radio.retune(rt, channel)?,
         Command::Send(rate, burst, room, text) => bench
             .radio
-            .send(rt, rt.alloc(), rate, burst, room, text.as_bytes())?,
+            .send(rt, rate, burst, room, text.as_bytes())?,
         Command::Put(index, symbol) => bench.radio.put(rt, index, symbol)?,
         Command::Cut(length) => bench.radio.cut(rt, length)?,
-        Command::Carry(kind, copies, text) => bench
-            .radio
-            .carry(rt, rt.alloc(), kind, copies, text)?,
-        Command::Carried(kind, copies, n) => bench.radio.carried(rt, rt.alloc(), kind, copies, n)?,
-        Command::Hear(room) => bench.radio.hear(rt, rt.alloc(), room)?,
+        Command::Carry(mode, text) => bench.radio.carry(rt, mode, text)?,
+        Command::Carried(mode, n) => bench.radio.carried(rt, mode, n)?,
+        Command::Hear(room) => bench.radio.hear(rt, room)?,
     }
     Ok(())
 }
 
 fn run(rt: &HostRuntime) -> anyhow::Result<()> {
-    let Ok(radio) = Radio::new(rt.alloc()) else {
-        return Err(anyhow!("the posts cannot be opened"));
-    };
+    let radio = Radio::new(rt.alloc()).map_err(|_| anyhow!("the posts cannot be opened"))?;
     let mut bench = Bench {
-        words: Words::new(),
-        headers: Headers::new(),
+        words: Words::default(),
+        headers: Headers::default(),
         radio,
     };
     for line in rt.lines(rt.alloc()) {

@@ -1,4 +1,7 @@
-use std::fmt;
+use bits::BadCall;
+use delivery::Fault;
+use frame::ReadHeaderFault;
+use std::{fmt, io};
 
 // A bit string, printed as digits.
 #[derive(Clone, Copy)]
@@ -10,5 +13,63 @@ impl fmt::Display for Digits<'_> {
             write!(f, "{bit}")?;
         }
         Ok(())
+    }
+}
+
+// Turns the heard bit at a place round, and prints what is heard then; `what` has the places.
+pub fn spoil(rt: &impl Print, heard: &mut [u8], place: usize, what: &str) -> io::Result<()> {
+    match heard.get_mut(place) {
+        Some(bit) => *bit ^= 1,
+        None => return println!(rt; "{what} 0 to {}", heard.len().saturating_sub(1)),
+    }
+    println!(rt; "heard   {}", Digits(heard))
+}
+
+// Why a call was refused, as the specification numbers it.
+#[derive(Clone, Copy)]
+pub struct Refusal {
+    number: u16,
+    layer: u16,
+    place: usize,
+}
+
+impl From<BadCall> for Refusal {
+    fn from(bad: BadCall) -> Refusal {
+        Refusal {
+            number: bad.number(),
+            layer: bad.layer(),
+            place: usize::from(bad.place()),
+        }
+    }
+}
+
+impl From<ReadHeaderFault> for Refusal {
+    fn from(fault: ReadHeaderFault) -> Refusal {
+        Refusal {
+            number: fault.number(),
+            layer: fault.layer(),
+            place: usize::from(fault.place()),
+        }
+    }
+}
+
+impl From<Fault> for Refusal {
+    fn from(fault: Fault) -> Refusal {
+        Refusal {
+            number: fault.number(),
+            layer: fault.layer(),
+            place: fault.place(),
+        }
+    }
+}
+
+impl fmt::Display for Refusal {
+    fn fmt<W: fmt::Write>(&self, f: &mut fmt::Formatter<W>) -> fmt::Result {
+        let Refusal {
+            number,
+            layer,
+            place,
+        } = self;
+        write!(f, "refused: number {number}, layer {layer}, place {place}")
     }
 }

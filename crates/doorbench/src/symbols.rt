@@ -1,9 +1,11 @@
+use super::command::Unclear;
 use super::show::Digits;
 use mapping::fault::ReadFault;
 use mapping::{D8psk, Dbpsk, Dqpsk, Gmsk, Mapping};
 use std::io;
+use std::str::FromStr;
 
-// Which mapping.
+// Which mapping. `step` and `read` match it each: `Mapping` has constants and is `Copy`, so it is no `dyn` trait.
 #[derive(Clone, Copy)]
 pub enum Kind {
     Dbpsk,
@@ -12,35 +14,57 @@ pub enum Kind {
     Gmsk,
 }
 
-// The mapping of this name.
-pub fn mapping_named(name: &str) -> Option<Kind> {
-    match name {
-        "dbpsk" => Some(Kind::Dbpsk),
-        "dqpsk" => Some(Kind::Dqpsk),
-        "d8psk" => Some(Kind::D8psk),
-        "gmsk" => Some(Kind::Gmsk),
-        _ => None,
+impl FromStr for Kind {
+    type Err = Unclear;
+
+    fn from_str(name: &str) -> Result<Kind, Unclear> {
+        match name {
+            "dbpsk" => Ok(Kind::Dbpsk),
+            "dqpsk" => Ok(Kind::Dqpsk),
+            "d8psk" => Ok(Kind::D8psk),
+            "gmsk" => Ok(Kind::Gmsk),
+            _ => Err(Unclear::NoMapping),
+        }
     }
 }
 
-// The bits of a symbol, written as digits.
-pub fn symbol_bits(text: &str) -> Option<&'static [u8]> {
-    match text {
-        "0" => Some(&[0]),
-        "1" => Some(&[1]),
-        "00" => Some(&[0, 0]),
-        "01" => Some(&[0, 1]),
-        "10" => Some(&[1, 0]),
-        "11" => Some(&[1, 1]),
-        "000" => Some(&[0, 0, 0]),
-        "001" => Some(&[0, 0, 1]),
-        "010" => Some(&[0, 1, 0]),
-        "011" => Some(&[0, 1, 1]),
-        "100" => Some(&[1, 0, 0]),
-        "101" => Some(&[1, 0, 1]),
-        "110" => Some(&[1, 1, 0]),
-        "111" => Some(&[1, 1, 1]),
-        _ => None,
+// The bits of a symbol: one, two or three.
+#[derive(Clone, Copy)]
+pub enum SymbolBits {
+    One([u8; 1]),
+    Two([u8; 2]),
+    Three([u8; 3]),
+}
+
+impl SymbolBits {
+    pub fn as_slice(&self) -> &[u8] {
+        match self {
+            SymbolBits::One(bits) => bits,
+            SymbolBits::Two(bits) => bits,
+            SymbolBits::Three(bits) => bits,
+        }
+    }
+}
+
+impl FromStr for SymbolBits {
+    type Err = Unclear;
+
+    fn from_str(text: &str) -> Result<SymbolBits, Unclear> {
+        match *text.as_bytes() {
+            [a] => Ok(SymbolBits::One([bit(a)?])),
+            [a, b] => Ok(SymbolBits::Two([bit(a)?, bit(b)?])),
+            [a, b, c] => Ok(SymbolBits::Three([bit(a)?, bit(b)?, bit(c)?])),
+            _ => Err(Unclear::NoBits),
+        }
+    }
+}
+
+// The bit that a digit writes.
+pub fn bit(digit: u8) -> Result<u8, Unclear> {
+    match digit {
+        b'0' => Ok(0),
+        b'1' => Ok(1),
+        _ => Err(Unclear::NoBits),
     }
 }
 
@@ -53,30 +77,16 @@ fn step_with<M: Mapping>(rt: &impl Print, mapping: &M, prior: u8, bits: &[u8]) -
     }
 }
 
-// Reads a step into places for the bits of one symbol.
-fn read_into<M: Mapping>(
-    rt: &impl Print,
-    mapping: &M,
-    prior: u8,
-    next: u8,
-    bits: &mut [u8],
-) -> io::Result<()> {
-    match mapping.read(prior, next, bits) {
-        Ok(()) => {}
-        Err(ReadFault::NoSuchStep) => return println!(rt; "no such step"),
-        Err(ReadFault::Call(_)) => return println!(rt; "refused: no symbol of the mapping"),
-    }
-    let digits = Digits(bits);
-    println!(rt; "from {prior} to {next} by {digits}")
-}
-
 fn read_with<M: Mapping>(rt: &impl Print, mapping: &M, prior: u8, next: u8) -> io::Result<()> {
     let mut bits = [0u8; 3];
-    let w = mapping.width();
-    if w > 3 {
+    let Some(places) = bits.get_mut(..mapping.width()) else {
         return println!(rt; "a symbol has more than 3 bits");
+    };
+    match mapping.read(prior, next, places) {
+        Ok(()) => println!(rt; "from {prior} to {next} by {}", Digits(places)),
+        Err(ReadFault::NoSuchStep) => println!(rt; "no such step"),
+        Err(ReadFault::Call(_)) => println!(rt; "refused: no symbol of the mapping"),
     }
-    read_into(rt, mapping, prior, next, &mut bits[0..w])
 }
 
 // Steps from a symbol with the bits of one symbol.

@@ -1,46 +1,29 @@
-use bits::BadCall;
-use block_code::{Bch63, BlockCode, Shortened};
+use bits::{BadCall, number_of, put_bits};
+use block_code::{Bch63, BlockCode, CorrectFault, Shortened};
 
 // A tag's number has 19 bits.
 pub const LAST_TAG: u32 = 524_287;
 
+// The bits of a tag's number, the highest first, and 12 parity bits.
+pub type Word = [u8; 31];
+
 // The code of a tag's word: 63/51 without the first 32 message bits.
-pub fn tag_code() -> Result<Shortened<Bch63>, BadCall> {
+fn tag_code() -> Result<Shortened<Bch63>, BadCall> {
     Shortened::new(Bch63, 32)
 }
 
-// The bits of a tag's number, the highest first.
-pub fn tag_bits(tag: u32) -> [u8; 19] {
-    let mut bits = [0u8; 19];
-    let mut rest = tag;
-    for bit in bits.iter_mut().rev() {
-        *bit = (rest & 1) as u8;
-        rest /= 2;
-    }
-    bits
-}
-
-// The number whose bits these are.
-pub fn tag_number(bits: &[u8]) -> u32 {
-    let mut tag = 0u32;
-    for bit in bits {
-        tag = tag.wrapping_mul(2).wrapping_add(u32::from(*bit));
-    }
-    tag
-}
-
-// A tag's parity.
-pub fn tag_parity(tag: u32) -> Result<[u8; 12], BadCall> {
-    let mut parity = [0u8; 12];
-    tag_code()?.encode(&tag_bits(tag), &mut parity)?;
-    Ok(parity)
-}
-
-// Message and parity, one behind the other.
-pub fn joined(message: &[u8; 19], parity: &[u8; 12]) -> [u8; 31] {
+// The word of a tag.
+pub fn tag_word(tag: u32) -> Result<Word, BadCall> {
     let mut word = [0u8; 31];
-    for (to, from) in word.iter_mut().zip(message.iter().chain(parity.iter())) {
-        *to = *from;
-    }
-    word
+    let (message, parity) = word.split_at_mut(19);
+    put_bits(u64::from(tag), message);
+    tag_code()?.encode(message, parity)?;
+    Ok(word)
+}
+
+// Corrects a word, and answers how many bits were wrong and whose word it is.
+pub fn corrected(mut word: Word) -> Result<(usize, u64), CorrectFault> {
+    let count = tag_code()?.correct(&mut word)?;
+    let tag = number_of(&word[..19])?;
+    Ok((count, tag))
 }

@@ -1,77 +1,30 @@
-use super::show::Digits;
-use super::tag::{LAST_TAG, joined, tag_bits, tag_code, tag_number, tag_parity};
-use bits::BadCall;
+use super::show::{Digits, spoil};
+use super::tag::{LAST_TAG, Word, corrected, tag_word};
 use block_code::{Bch63, BlockCode, CorrectFault};
 use std::io;
 
-// A word on the bench: what was sent, and what was heard of it.
-#[derive(Clone, Copy)]
+// A word on the bench: the tag that sent, and what was heard of its word.
+#[derive(Clone, Copy, Default)]
 pub struct Words {
-    sent: [u8; 31],
-    heard: [u8; 31],
-}
-
-// Corrects 31 bits in the shortened code.
-fn corrected(bits: &mut [u8]) -> Result<usize, CorrectFault> {
-    match tag_code() {
-        Ok(code) => code.correct(bits),
-        Err(bad) => Err(CorrectFault::Call(bad)),
-    }
-}
-
-// The tag whose message stands at the front of a word.
-fn tag_in(word: &[u8]) -> u32 {
-    if word.len() < 19 {
-        return 0;
-    }
-    tag_number(&word[0..19])
-}
-
-// 32 zeros and the heard bits.
-fn unshortened(heard: &[u8; 31]) -> [u8; 63] {
-    let mut full = [0u8; 63];
-    for (to, from) in full.iter_mut().skip(32).zip(heard.iter()) {
-        *to = *from;
-    }
-    full
-}
-
-// The first place where two strings differ.
-fn first_difference(a: &[u8], b: &[u8]) -> Option<usize> {
-    for (i, (x, y)) in a.iter().zip(b.iter()).enumerate() {
-        if *x != *y {
-            return Some(i);
-        }
-    }
-    None
+    sent: u32,
+    heard: Word,
 }
 
 impl Words {
-    pub fn new() -> Words {
-        Words {
-            sent: [0; 31],
-            heard: [0; 31],
-        }
-    }
-
     // Sends the word of a tag.
     pub fn send(&mut self, rt: &impl Print, tag: u32) -> io::Result<()> {
         if tag > LAST_TAG {
             return println!(rt; "tag {tag} has more than 19 bits");
         }
-        let message = tag_bits(tag);
-        let Ok(parity) = tag_parity(tag) else {
+        let Ok(word) = tag_word(tag) else {
             return println!(rt; "the code turned the call away");
         };
-        self.sent = joined(&message, &parity);
-        self.heard = self.sent;
-        let digits = Digits(&message);
-        println!(rt; "message {digits}")?;
-        let digits = Digits(&parity);
-        println!(rt; "parity  {digits}")?;
-        let word = self.sent;
-        let digits = Digits(&word);
-        println!(rt; "sent    {digits}")
+        self.sent = tag;
+        self.heard = word;
+        let (message, parity) = word.split_at(19);
+        println!(rt; "message {}", Digits(message))?;
+        println!(rt; "parity  {}", Digits(parity))?;
+        println!(rt; "sent    {}", Digits(&word))
     }
 
     // Hears the message of one tag with the parity of another.
@@ -79,36 +32,25 @@ impl Words {
         if first > LAST_TAG || second > LAST_TAG {
             return println!(rt; "a tag's number has at most 19 bits");
         }
-        let (Ok(own), Ok(other)) = (tag_parity(first), tag_parity(second)) else {
+        let (Ok(own), Ok(other)) = (tag_word(first), tag_word(second)) else {
             return println!(rt; "the code turned the call away");
         };
-        self.sent = joined(&tag_bits(first), &own);
-        self.heard = joined(&tag_bits(first), &other);
-        self.show_heard(rt)
-    }
-
-    fn show_heard(&self, rt: &impl Print) -> io::Result<()> {
-        let heard = self.heard;
-        let digits = Digits(&heard);
-        println!(rt; "heard   {digits}")
+        self.sent = first;
+        self.heard = own;
+        self.heard[19..].copy_from_slice(&other[19..]);
+        println!(rt; "heard   {}", Digits(&self.heard))
     }
 
     // Turns a heard bit round.
     pub fn spoil(&mut self, rt: &impl Print, place: usize) -> io::Result<()> {
-        if place >= 31 {
-            return println!(rt; "a word has places 0 to 30");
-        }
-        self.heard[place] ^= 1;
-        self.show_heard(rt)
+        spoil(rt, &mut self.heard, place, "a word has places")
     }
 
     // Corrects what is heard in the shortened code.
     pub fn correct(&self, rt: &impl Print) -> io::Result<()> {
-        let mut word = self.heard;
-        match corrected(&mut word) {
-            Ok(count) => {
-                let tag = tag_in(&word);
-                let sent = tag_in(&self.sent);
+        match corrected(self.heard) {
+            Ok((count, tag)) => {
+                let sent = self.sent;
                 println!(rt; "wrong bits: {count}; delivered is tag {tag}, sent was tag {sent}")
             }
             Err(CorrectFault::NoWordNear) => println!(rt; "no word near: nothing is delivered"),
@@ -116,20 +58,20 @@ impl Words {
         }
     }
 
-    // What the full code would do.
+    // What the full code would do with 32 zeros in front.
     pub fn full(&self, rt: &impl Print) -> io::Result<()> {
-        let before = unshortened(&self.heard);
-        let mut after = before;
-        match Bch63.correct(&mut after) {
-            Ok(count) => match first_difference(&before[0..32], &after[0..32]) {
-                Some(place) => println!(rt;
-                    "the full code would alter {count} of its 63 places, one of them place {place}, which is never sent"
-                ),
-                None => println!(rt;
-                    "the full code would alter {count} of its 63 places, all of them sent"
-                ),
-            },
-            Err(_) => println!(rt; "the full code finds no word near"),
+        let mut full = [0u8; 63];
+        full[32..].copy_from_slice(&self.heard);
+        let Ok(count) = Bch63.correct(&mut full) else {
+            return println!(rt; "the full code finds no word near");
+        };
+        match full.iter().take(32).position(|bit| *bit != 0) {
+            Some(place) => println!(rt;
+                "the full code would alter {count} of its 63 places, one of them place {place}, which is never sent"
+            ),
+            None => println!(rt;
+                "the full code would alter {count} of its 63 places, all of them sent"
+            ),
         }
     }
 }
