@@ -51,6 +51,7 @@ impl Mode {
         let mut symbols = vec![in heap; 0u8; MOST]?;
         let count = match self.carrier().send(0, bits, &mut symbols) {
             Ok(count) => count,
+            // The bench prints a refusal and goes on, so it does not leave by `?`.
             Err(bad) => return Ok(println!(rt; "{}", Refusal::from(bad))?),
         };
         let Some(sent) = symbols.get(..count) else {

@@ -70,7 +70,7 @@ impl From<ParseIntError> for Unclear {
 }
 
 // The next word of a line as a value; where no word is left, an empty one is read.
-fn next<T: FromStr>(words: &mut SplitWhitespace<'_>) -> Result<T, Unclear>
+fn value<T: FromStr>(words: &mut SplitWhitespace<'_>) -> Result<T, Unclear>
 where
     Unclear: From<T::Err>,
 {
@@ -79,7 +79,7 @@ where
 
 // A size: a number of 32 bits.
 fn size(words: &mut SplitWhitespace<'_>) -> Result<usize, Unclear> {
-    Ok(next::<u32>(words)? as usize)
+    Ok(value::<u32>(words)? as usize)
 }
 
 fn text<'a>(words: &mut SplitWhitespace<'a>) -> Result<&'a str, Unclear> {
@@ -88,15 +88,15 @@ fn text<'a>(words: &mut SplitWhitespace<'a>) -> Result<&'a str, Unclear> {
 
 fn header(words: &mut SplitWhitespace<'_>) -> Result<Header, Unclear> {
     Ok(Header {
-        rate: next(words)?,
+        rate: value(words)?,
         bytes: size(words)?,
-        burst: next(words)?,
-        seed: next(words)?,
+        burst: value(words)?,
+        seed: value(words)?,
     })
 }
 
 fn mode(words: &mut SplitWhitespace<'_>) -> Result<Mode, Unclear> {
-    let kind = next(words)?;
+    let kind = value(words)?;
     let copies = Copies::new(size(words)?).map_err(|_| Unclear::NoCopies)?;
     Ok(Mode { kind, copies })
 }
@@ -105,20 +105,20 @@ fn mode(words: &mut SplitWhitespace<'_>) -> Result<Mode, Unclear> {
 fn named<'a>(name: &str, words: &mut SplitWhitespace<'a>) -> Result<Command<'a>, Unclear> {
     Ok(match name {
         "help" => Command::Help,
-        "tag" => Command::Tag(next(words)?),
-        "mix" => Command::Mix(next(words)?, next(words)?),
+        "tag" => Command::Tag(value(words)?),
+        "mix" => Command::Mix(value(words)?, value(words)?),
         "spoil" => Command::Spoil(size(words)?),
         "correct" => Command::Correct,
         "full" => Command::Full,
-        "step" => Command::Step(next(words)?, next(words)?, next(words)?),
-        "read" => Command::Read(next(words)?, next(words)?, next(words)?),
+        "step" => Command::Step(value(words)?, value(words)?, value(words)?),
+        "read" => Command::Read(value(words)?, value(words)?, value(words)?),
         "header" => Command::Write(header(words)?),
         "spoil-header" => Command::SpoilHeader(size(words)?),
         "read-header" => Command::ReadHeader,
-        "open" => Command::Open(next(words)?, next(words)?, next(words)?),
-        "retune" => Command::Retune(next(words)?),
-        "send" => Command::Send(next(words)?, next(words)?, size(words)?, text(words)?),
-        "put" => Command::Put(size(words)?, next(words)?),
+        "open" => Command::Open(value(words)?, value(words)?, value(words)?),
+        "retune" => Command::Retune(value(words)?),
+        "send" => Command::Send(value(words)?, value(words)?, size(words)?, text(words)?),
+        "put" => Command::Put(size(words)?, value(words)?),
         "cut" => Command::Cut(size(words)?),
         "hear" => Command::Hear(size(words)?),
         "carry" => Command::Carry(mode(words)?, text(words)?),
@@ -127,15 +127,18 @@ fn named<'a>(name: &str, words: &mut SplitWhitespace<'a>) -> Result<Command<'a>,
     })
 }
 
-// Reads a line.
-pub fn parse(line: &str) -> Result<Command<'_>, Unclear> {
-    let mut words = line.split_whitespace();
-    let Some(name) = words.next() else {
-        return Ok(Command::Nothing);
-    };
-    let command = named(name, &mut words)?;
-    match words.next() {
-        Some(_) => Err(Unclear::TooMuch),
-        None => Ok(command),
+impl<'a> TryFrom<&'a str> for Command<'a> {
+    type Error = Unclear;
+
+    fn try_from(line: &'a str) -> Result<Command<'a>, Unclear> {
+        let mut words = line.split_whitespace();
+        let Some(name) = words.next() else {
+            return Ok(Command::Nothing);
+        };
+        let command = named(name, &mut words)?;
+        match words.next() {
+            Some(_) => Err(Unclear::TooMuch),
+            None => Ok(command),
+        }
     }
 }

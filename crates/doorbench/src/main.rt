@@ -11,7 +11,7 @@ mod tag;
 mod words;
 
 use anyhow::anyhow;
-use command::{Command, parse};
+use command::Command;
 use headers::Headers;
 use radio::Radio;
 use words::Words;
@@ -53,8 +53,8 @@ fn act(rt: &HostRuntime, bench: &mut Bench, command: Command<'_>) -> anyhow::Res
         Command::Spoil(place) => bench.words.spoil(rt, place)?,
         Command::Correct => bench.words.correct(rt)?,
         Command::Full => bench.words.full(rt)?,
-        Command::Step(kind, prior, bits) => symbols::step(rt, kind, prior, bits.as_slice())?,
-        Command::Read(kind, prior, next) => symbols::read(rt, kind, prior, next)?,
+        Command::Step(kind, prior, bits) => kind.step(rt, prior, bits)?,
+        Command::Read(kind, prior, next) => kind.read(rt, prior, next)?,
         Command::Write(header) => bench.headers.write(rt, header)?,
         Command::SpoilHeader(place) => bench.headers.spoil(rt, place)?,
         Command::ReadHeader => bench.headers.read(rt)?,
@@ -83,7 +83,7 @@ fn run(rt: &HostRuntime) -> anyhow::Result<()> {
         let line = line?;
         let text = line.as_str();
         println!(rt; "> {text}")?;
-        match parse(text) {
+        match Command::try_from(text) {
             Ok(command) => act(rt, &mut bench, command)?,
             Err(unclear) => println!(rt; "not understood: {unclear}; 'help' lists the commands")?,
         }

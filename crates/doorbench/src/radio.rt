@@ -78,17 +78,22 @@ impl Radio {
         })
     }
 
+    fn post(&mut self, side: Side) -> &mut Post<Band> {
+        match side {
+            Side::Sender => &mut self.sender,
+            Side::Hearer => &mut self.hearer,
+        }
+    }
+
     // Opens one of the posts.
     pub fn open(&mut self, rt: &impl Print, side: Side, band: u32, channel: u32) -> io::Result<()> {
-        let post = match open_band(band, channel) {
-            Ok(post) => post,
-            Err(fault) => return println!(rt; "{}", Refusal::from(fault)),
-        };
-        match side {
-            Side::Sender => self.sender = post,
-            Side::Hearer => self.hearer = post,
+        match open_band(band, channel) {
+            Ok(post) => {
+                *self.post(side) = post;
+                println!(rt; "open on channel {channel} of band {band}")
+            }
+            Err(fault) => println!(rt; "{}", Refusal::from(fault)),
         }
-        println!(rt; "open on channel {channel} of band {band}")
     }
 
     // Retunes the sender.
@@ -111,6 +116,7 @@ impl Radio {
         let mut symbols = vec![in self.heap; 0u8; room.min(LONGEST)]?;
         let count = match self.sender.send(rate, burst, psdu, &mut symbols) {
             Ok(count) => count,
+            // The bench prints a refusal and goes on, so it does not leave by `?`.
             Err(fault) => return Ok(println!(rt; "{}", Refusal::from(fault))?),
         };
         let Some(heard) = symbols.get(LAST_OF_PREAMBLE..count) else {

@@ -65,11 +65,10 @@ impl From<Fault> for Refusal {
 
 impl fmt::Display for Refusal {
     fn fmt<W: fmt::Write>(&self, f: &mut fmt::Formatter<W>) -> fmt::Result {
-        let Refusal {
-            number,
-            layer,
-            place,
-        } = self;
-        write!(f, "refused: number {number}, layer {layer}, place {place}")
+        write!(
+            f,
+            "refused: number {}, layer {}, place {}",
+            self.number, self.layer, self.place
+        )
     }
 }

@@ -5,7 +5,7 @@ use mapping::{D8psk, Dbpsk, Dqpsk, Gmsk, Mapping};
 use std::io;
 use std::str::FromStr;
 
-// Which mapping. `step` and `read` match it each: `Mapping` has constants and is `Copy`, so it is no `dyn` trait.
+// Which mapping.
 #[derive(Clone, Copy)]
 pub enum Kind {
     Dbpsk,
@@ -37,7 +37,7 @@ pub enum SymbolBits {
 }
 
 impl SymbolBits {
-    pub fn as_slice(&self) -> &[u8] {
+    fn as_slice(&self) -> &[u8] {
         match self {
             SymbolBits::One(bits) => bits,
             SymbolBits::Two(bits) => bits,
@@ -89,22 +89,26 @@ fn read_with<M: Mapping>(rt: &impl Print, mapping: &M, prior: u8, next: u8) -> i
     }
 }
 
-// Steps from a symbol with the bits of one symbol.
-pub fn step(rt: &impl Print, kind: Kind, prior: u8, bits: &[u8]) -> io::Result<()> {
-    match kind {
-        Kind::Dbpsk => step_with(rt, &Dbpsk, prior, bits),
-        Kind::Dqpsk => step_with(rt, &Dqpsk, prior, bits),
-        Kind::D8psk => step_with(rt, &D8psk, prior, bits),
-        Kind::Gmsk => step_with(rt, &Gmsk, prior, bits),
+// `Mapping` has constants and is `Copy`, so it is no `dyn` trait: `step` and `read` match the kind each.
+impl Kind {
+    // Steps from a symbol with the bits of one symbol.
+    pub fn step(&self, rt: &impl Print, prior: u8, bits: SymbolBits) -> io::Result<()> {
+        let bits = bits.as_slice();
+        match self {
+            Kind::Dbpsk => step_with(rt, &Dbpsk, prior, bits),
+            Kind::Dqpsk => step_with(rt, &Dqpsk, prior, bits),
+            Kind::D8psk => step_with(rt, &D8psk, prior, bits),
+            Kind::Gmsk => step_with(rt, &Gmsk, prior, bits),
+        }
     }
-}
 
-// Reads a step from one symbol to another.
-pub fn read(rt: &impl Print, kind: Kind, prior: u8, next: u8) -> io::Result<()> {
-    match kind {
-        Kind::Dbpsk => read_with(rt, &Dbpsk, prior, next),
-        Kind::Dqpsk => read_with(rt, &Dqpsk, prior, next),
-        Kind::D8psk => read_with(rt, &D8psk, prior, next),
-        Kind::Gmsk => read_with(rt, &Gmsk, prior, next),
+    // Reads a step from one symbol to another.
+    pub fn read(&self, rt: &impl Print, prior: u8, next: u8) -> io::Result<()> {
+        match self {
+            Kind::Dbpsk => read_with(rt, &Dbpsk, prior, next),
+            Kind::Dqpsk => read_with(rt, &Dqpsk, prior, next),
+            Kind::D8psk => read_with(rt, &D8psk, prior, next),
+            Kind::Gmsk => read_with(rt, &Gmsk, prior, next),
+        }
     }
 }
