@@ -16,7 +16,7 @@ impl fmt::Display for Digits<'_> {
     }
 }
 
-// Turns the heard bit at a place round, and prints what is heard then; `what` has the places.
+// Turns the heard bit at a place round, and prints what is heard then; `what` says whose places they are.
 pub fn spoil(rt: &impl Print, heard: &mut [u8], place: usize, what: &str) -> io::Result<()> {
     match heard.get_mut(place) {
         Some(bit) => *bit ^= 1,
@@ -25,7 +25,7 @@ pub fn spoil(rt: &impl Print, heard: &mut [u8], place: usize, what: &str) -> io:
     println!(rt; "heard   {}", Digits(heard))
 }
 
-// Why a call was refused, as the specification numbers it.
+// Why a call was refused: the fault's number, its layer and its place.
 #[derive(Clone, Copy)]
 pub struct Refusal {
     number: u16,
