@@ -97,7 +97,7 @@ fn header(words: &mut SplitWhitespace<'_>) -> Result<Header, Unclear> {
 
 fn mode(words: &mut SplitWhitespace<'_>) -> Result<Mode, Unclear> {
     let kind = value(words)?;
-    let copies = Copies::new(size(words)?).map_err(|_| Unclear::NoCopies)?;
+    let copies = Copies::try_from(size(words)?).map_err(|_| Unclear::NoCopies)?;
     Ok(Mode { kind, copies })
 }
 

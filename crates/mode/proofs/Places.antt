@@ -1,11 +1,12 @@
 -- Where in the list a word's copies stand, and what hearing the words of a part says of it.
-use Rattle.std.proofs.Common.{◌≡◌, ℕ, ◌+◌, ◌-◌, ◌*◌, ◌/◌, ◌%◌, ◌<◌, ◌≤◌, List, ◌++◌, length, get_or, take, drop, Ok, Err, sym, ap, ◌∙◌, mul-le-mul_right, mul-le-mul_left, arith}
+use Rattle.std.proofs.Common.{◌≡◌, ℕ, ◌+◌, ◌-◌, ◌*◌, ◌/◌, ◌%◌, ◌<◌, ◌≤◌, List, ◌++◌, length, get_or, take, drop, Ok, Err, Result, MatchResult, IsErrAnd, sym, ap, ◌∙◌, mul-le-mul_right, mul-le-mul_left, arith}
 use native.Mathlib.Nat.{mul-div_cancel_left, sub-zero}
 use Rattle.std.proofs.lemmas.Nat.{div_below, le-div, div-add-mod', mod_below}
 use Rattle.std.proofs.lemmas.List.{take-map, drop-map, get_or-take, get_or-drop, length-take-le, length-drop}
 use Rattle.std.specs.List.{AllByRecursion}
 use Rattle.bits.specs.Strings.{Bit}
 use Rattle.mode.specs.declared.air_bit.AirBit.{AirBit}
+use Rattle.mode.specs.declared.fault.PartFault.{PartFault}
 use Rattle.mode.specs.declared.fault.PartFault.TheVariants.{Word}
 use Rattle.mode.specs.Shares.{words, unsent, unsents}
 use Rattle.mode.specs.Orders.{Copied, forth, back, deinterleaved}
@@ -13,7 +14,7 @@ use Rattle.mode.specs.Heard.{labelled, bits_of, symbols_of, Lowest}
 use Rattle.mode.specs.Modes.{Mode, Lawful, Carried, total, count}
 use Rattle.mode.specs.Parts.{First, There, Read, Reach, Lost, copies_of, sized, start, bit_at, Holds}
 use Rattle.mode.specs.Hearing.{HearsWords}
-use Rattle.mode.specs.Answers.{Faulty}
+use Rattle.mode.specs.Answers.{Faulty, HearsPart}
 use Rattle.mode.proofs.Turns.{forth_undoes, back_undoes}
 use Rattle.mode.proofs.Strings.{bits_at}
 use Rattle.mode.proofs.Moves.{copied_at}
@@ -139,6 +140,13 @@ module _ (m : Mode) (L : Lawful m) (list : List ℕ) (at n : ℕ) (t : There m l
     heard_lost after c h =
         let f : First (Lost m.code m.copies (unsents m.code.k n) (copies_of m n bs)) (words m.code.k n) h.0 = rw heard_as at h.1 in
         (bs, r, (h.0, f, lowest_holds m L at n h.0 t.carried.low h.1.below bs read_size c (rw e at h.2)))
+
+    -- the answer for a part, where the place q of a lost word's fault is the code's
+    pub heard_part : {q : ℕ → PartFault → Type 0} (after : List ℕ) (r : Result ℕ ℕ) (f : Result ℕ PartFault) → ((c : ℕ) (y : PartFault) → q c y → y ≡ Word (at + 1 + c))
+        → HearsWords m.code m.copies hs n after r → MatchResult r (λ c. f ≡ Ok c) (λ c. IsErrAnd f (q c)) → HearsPart m list at n after f
+    heard_part after (Ok c) f k h e = rw e (heard_reach after c h)
+    heard_part after (Err c) (Ok d) k h e = absurd e
+    heard_part after (Err c) (Err y) k h e = rw (k c y e) (heard_lost after c h)
 
 -- the places that a part takes
 pub part_width : (m : Mode) → Lawful m → (n c w : ℕ) → c ≡ count m n → w ≡ m.map.w → c * w ≡ m.copies * total m n

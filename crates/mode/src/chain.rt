@@ -5,7 +5,7 @@ ghost use Rattle.bits.specs.Strings.{Bit};
 ghost use Rattle.mode.specs.Modes.{Carried, plain as plain_of, total as total_of, count as count_of, padded as padded_of, air as air_of};
 ghost use Rattle.mode.specs.Parts.{There};
 ghost use Rattle.mode.specs.Answers.{HearsPart};
-ghost use Rattle.mode.specs.Chains.{copy_count, chained, Copied as CopiedOf};
+ghost use Rattle.mode.specs.Chains.{copy_count, chained};
 ghost use Rattle.std.proofs.Common.{rules};
 
 use crate::air_bit::AirBit;
@@ -21,33 +21,9 @@ use block_code::BlockCode;
 use mapping::Mapping;
 
 // The most bits that are carried at a time, and the most coded bits for them: 132 words of 63 bits, and two zeros.
-const MAX_BITS: usize = 2112;
+pub const MAX_BITS: usize = 2112;
 
 const MAX_CODED: usize = 8318;
-
-impl Copies {
-    // So many copies: 1, 2 or 4.
-    pub fn new(count: usize) -> Result<Copies, BadCall>
-        ensures { CopiedOf count result }
-    {
-        match count {
-            1 => Ok(Copies::One),
-            2 => Ok(Copies::Two),
-            4 => Ok(Copies::Four),
-            _ => Err(BadCall),
-        }
-    }
-
-    pub fn count(&self) -> usize
-        ensures { result ≡ copy_count self.now }
-    {
-        match self {
-            Copies::One => 1,
-            Copies::Two => 2,
-            Copies::Four => 4,
-        }
-    }
-}
 
 #[derive(Clone, Copy)]
 pub struct Chain<C, M> {
@@ -60,7 +36,7 @@ impl<C: RoomyCode, M: Mapping> Chain<C, M> {
     // How many bits the words have that carry n bits.
     fn word_bits(&self, n: usize) -> usize
         requires { Carried n }
-        ensures { result ≡ plain_of (chained (C.BlockCode.code self.now.code) self.now.copies M.Mapping.map) n }
+        ensures { result ≡ plain_of (⟦<Self as Carrier>⟧.mode self.now) n }
     {
         n + word_count(self.code.message_bits(), n) * self.code.parity_bits()
     }
@@ -68,7 +44,7 @@ impl<C: RoomyCode, M: Mapping> Chain<C, M> {
     // The same with the zeros that fill up the last symbol.
     fn coded_bits(&self, n: usize) -> usize
         requires { Carried n }
-        ensures { result ≡ total_of (chained (C.BlockCode.code self.now.code) self.now.copies M.Mapping.map) n }
+        ensures { result ≡ total_of (⟦<Self as Carrier>⟧.mode self.now) n }
     {
         let w = self.mapping.width();
         let plain = self.word_bits(n);
@@ -78,7 +54,7 @@ impl<C: RoomyCode, M: Mapping> Chain<C, M> {
     // How many symbols n bits take.
     fn symbols(&self, n: usize) -> usize
         requires { Carried n }
-        ensures { result ≡ count_of (chained (C.BlockCode.code self.now.code) self.now.copies M.Mapping.map) n }
+        ensures { result ≡ count_of (⟦<Self as Carrier>⟧.mode self.now) n }
     {
         self.copies.count() * self.coded_bits(n) / self.mapping.width()
     }
@@ -87,8 +63,8 @@ impl<C: RoomyCode, M: Mapping> Chain<C, M> {
     fn write_coded(&self, bits: &[u8], coded: &mut [u8])
         requires carried { Carried (length bits.now) }
         requires bits { AllByRecursion Bit bits.now }
-        requires room { length coded.old ≡ total_of (chained (C.BlockCode.code self.now.code) self.now.copies M.Mapping.map) (length bits.now) }
-        ensures { coded.new ≡ padded_of (chained (C.BlockCode.code self.now.code) self.now.copies M.Mapping.map) bits.now }
+        requires room { length coded.old ≡ total_of (⟦<Self as Carrier>⟧.mode self.now) (length bits.now) }
+        ensures { coded.new ≡ padded_of (⟦<Self as Carrier>⟧.mode self.now) bits.now }
     {
         let plain = self.word_bits(bits.len());
         put_words(&self.code, bits, &mut coded[0..plain]);
@@ -99,8 +75,8 @@ impl<C: RoomyCode, M: Mapping> Chain<C, M> {
     fn write_air(&self, bits: &[u8], air: &mut [u8])
         requires carried { Carried (length bits.now) }
         requires bits { AllByRecursion Bit bits.now }
-        requires room { length air.old ≡ copy_count self.now.copies * total_of (chained (C.BlockCode.code self.now.code) self.now.copies M.Mapping.map) (length bits.now) }
-        ensures { air.new ≡ air_of (chained (C.BlockCode.code self.now.code) self.now.copies M.Mapping.map) bits.now }
+        requires room { length air.old ≡ copy_count self.now.copies * total_of (⟦<Self as Carrier>⟧.mode self.now) (length bits.now) }
+        ensures { air.new ≡ air_of (⟦<Self as Carrier>⟧.mode self.now) bits.now }
     {
         let total = self.coded_bits(bits.len());
         let mut coded = [0u8; MAX_CODED];
@@ -117,22 +93,21 @@ impl<C: RoomyCode, M: Mapping> Chain<C, M> {
         heard: &mut [AirBit],
         bits: &mut [u8],
     ) -> Result<usize, PartFault>
-        requires there { There (chained (C.BlockCode.code self.now.code) self.now.copies M.Mapping.map) list.now at (length bits.old) }
-        requires symbols { count ≡ count_of (chained (C.BlockCode.code self.now.code) self.now.copies M.Mapping.map) (length bits.old) }
+        requires there { There (⟦<Self as Carrier>⟧.mode self.now) list.now at (length bits.old) }
+        requires symbols { count ≡ count_of (⟦<Self as Carrier>⟧.mode self.now) (length bits.old) }
         requires room { length heard.old ≡ count * M.Mapping.map.w }
-        ensures { HearsPart (chained (C.BlockCode.code self.now.code) self.now.copies M.Mapping.map) list.now at (length bits.old) bits.new result }
+        ensures { HearsPart (⟦<Self as Carrier>⟧.mode self.now) list.now at (length bits.old) bits.new result }
     {
         let copies = self.copies.count();
         hear_copies(&self.mapping, copies, list, at, count, heard)?;
-        match hear_words(&self.code, copies, heard, bits) {
-            Ok(spoilt) => Ok(spoilt),
-            Err(symbol) => Err(PartFault::Word(at + 1 + usize::from(symbol))),
-        }
+        hear_words(&self.code, copies, heard, bits).map_err(|symbol| PartFault::Word(
+            at + 1 + usize::from(symbol),
+        ))
     }
 }
 
 impl<C: RoomyCode, M: Mapping> Carrier for Chain<C, M> {
-    ghost mode = { λ s. chained (C.BlockCode.code s.code) s.copies M.Mapping.map };
+    ghost mode = { λ s. chained (C.code s.code) s.copies M.map };
 
     ghost lawful = { Prim.search rules };
 
@@ -141,7 +116,7 @@ impl<C: RoomyCode, M: Mapping> Carrier for Chain<C, M> {
     }
 
     fn symbol_count(&self, n: usize) -> Result<usize, BadCall> {
-        if n < 2 || n > 2112 {
+        if !(2..=MAX_BITS).contains(&n) {
             return Err(BadCall);
         }
         Ok(self.symbols(n))

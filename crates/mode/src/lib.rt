@@ -19,7 +19,7 @@ ghost use Rattle.mode.specs.Examples.{Examples};
 ghost use Rattle.mode.specs.Faults.{number, place, hear_number, hear_place};
 
 pub use carrier::Carrier;
-pub use chain::Chain;
+pub use chain::{Chain, MAX_BITS};
 pub use choice::Choice;
 pub use copies::Copies;
 pub use fault::{HearFault, PartFault};
@@ -44,9 +44,7 @@ impl PartFault {
         ensures { result ≡ place self.now }
     {
         match self {
-            PartFault::Symbol(i) => *i,
-            PartFault::Step(i) => *i,
-            PartFault::Word(i) => *i,
+            PartFault::Symbol(i) | PartFault::Step(i) | PartFault::Word(i) => *i,
         }
     }
 }
