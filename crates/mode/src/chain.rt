@@ -1,8 +1,6 @@
 // A mode: a code, a count of copies and a mapping.
 ghost use Rattle.std.specs.Prelude.{◌≡◌, ◌*◌, length};
-ghost use Rattle.std.specs.List.{AllByRecursion};
-ghost use Rattle.bits.specs.Strings.{Bit};
-ghost use Rattle.mode.specs.Modes.{Carried, plain as plain_of, total as total_of, count as count_of, padded as padded_of, air as air_of};
+ghost use Rattle.mode.specs.Modes.{plain as plain_of, total as total_of, count as count_of, padded as padded_of, air as air_of};
 ghost use Rattle.mode.specs.Parts.{There};
 ghost use Rattle.mode.specs.Answers.{HearsPart};
 ghost use Rattle.mode.specs.Chains.{copy_count, chained};
@@ -14,15 +12,14 @@ use crate::coder::{MAX_AIR, put_copies, put_words, step_through};
 use crate::copies::Copies;
 use crate::decoder::{hear_copies, hear_words};
 use crate::fault::{HearFault, PartFault};
+use crate::message::{BitCount, MAX_BITS, Message};
 use crate::roomy::RoomyCode;
 use crate::sharing::word_count;
-use bits::{BadCall, are_bits};
+use bits::BadCall;
 use block_code::BlockCode;
 use mapping::Mapping;
 
-// The most bits that are carried at a time, and the most coded bits for them: 132 words of 63 bits, and two zeros.
-pub const MAX_BITS: usize = 2112;
-
+// The most coded bits: 132 words of 63 bits, and two zeros.
 const MAX_CODED: usize = 8318;
 
 #[derive(Clone, Copy)]
@@ -33,54 +30,47 @@ pub struct Chain<C, M> {
 }
 
 impl<C: RoomyCode, M: Mapping> Chain<C, M> {
-    // How many bits the words have that carry n bits.
-    fn word_bits(&self, n: usize) -> usize
-        requires { Carried n }
-        ensures { result ≡ plain_of (⟦<Self as Carrier>⟧.mode self.now) n }
+    // How many bits the words have that carry so many bits.
+    fn word_bits(&self, count: BitCount) -> usize
+        ensures { result ≡ plain_of (⟦<Self as Carrier>⟧.mode self.now) count.n }
     {
-        n + word_count(self.code.message_bits(), n) * self.code.parity_bits()
+        count.n + word_count(self.code.message_bits(), count.n) * self.code.parity_bits()
     }
 
     // The same with the zeros that fill up the last symbol.
-    fn coded_bits(&self, n: usize) -> usize
-        requires { Carried n }
-        ensures { result ≡ total_of (⟦<Self as Carrier>⟧.mode self.now) n }
+    fn coded_bits(&self, count: BitCount) -> usize
+        ensures { result ≡ total_of (⟦<Self as Carrier>⟧.mode self.now) count.n }
     {
         let w = self.mapping.width();
-        let plain = self.word_bits(n);
+        let plain = self.word_bits(count);
         plain + (w - plain % w) % w
     }
 
-    // How many symbols n bits take.
-    fn symbols(&self, n: usize) -> usize
-        requires { Carried n }
-        ensures { result ≡ count_of (⟦<Self as Carrier>⟧.mode self.now) n }
+    // How many symbols so many bits take.
+    fn symbols(&self, count: BitCount) -> usize
+        ensures { result ≡ count_of (⟦<Self as Carrier>⟧.mode self.now) count.n }
     {
-        self.copies.count() * self.coded_bits(n) / self.mapping.width()
+        self.copies.count() * self.coded_bits(count) / self.mapping.width()
     }
 
     // Writes the words that carry the bits, and the zeros after them.
-    fn write_coded(&self, bits: &[u8], coded: &mut [u8])
-        requires carried { Carried (length bits.now) }
-        requires bits { AllByRecursion Bit bits.now }
-        requires room { length coded.old ≡ total_of (⟦<Self as Carrier>⟧.mode self.now) (length bits.now) }
-        ensures { coded.new ≡ padded_of (⟦<Self as Carrier>⟧.mode self.now) bits.now }
+    fn write_coded(&self, message: &Message, coded: &mut [u8])
+        requires { length coded.old ≡ total_of (⟦<Self as Carrier>⟧.mode self.now) (length message.now.bits.now) }
+        ensures { coded.new ≡ padded_of (⟦<Self as Carrier>⟧.mode self.now) message.now.bits.now }
     {
-        let plain = self.word_bits(bits.len());
-        put_words(&self.code, bits, &mut coded[0..plain]);
+        let plain = self.word_bits(message.count());
+        put_words(&self.code, message.bits, &mut coded[0..plain]);
         coded[plain..].fill(0);
     }
 
     // Writes the copies of the coded bits in the order in which they go out.
-    fn write_air(&self, bits: &[u8], air: &mut [u8])
-        requires carried { Carried (length bits.now) }
-        requires bits { AllByRecursion Bit bits.now }
-        requires room { length air.old ≡ copy_count self.now.copies * total_of (⟦<Self as Carrier>⟧.mode self.now) (length bits.now) }
-        ensures { air.new ≡ air_of (⟦<Self as Carrier>⟧.mode self.now) bits.now }
+    fn write_air(&self, message: &Message, air: &mut [u8])
+        requires { length air.old ≡ copy_count self.now.copies * total_of (⟦<Self as Carrier>⟧.mode self.now) (length message.now.bits.now) }
+        ensures { air.new ≡ air_of (⟦<Self as Carrier>⟧.mode self.now) message.now.bits.now }
     {
-        let total = self.coded_bits(bits.len());
+        let total = self.coded_bits(message.count());
         let mut coded = [0u8; MAX_CODED];
-        self.write_coded(bits, &mut coded[0..total]);
+        self.write_coded(message, &mut coded[0..total]);
         put_copies(self.copies.count(), &coded[0..total], air);
     }
 
@@ -116,21 +106,20 @@ impl<C: RoomyCode, M: Mapping> Carrier for Chain<C, M> {
     }
 
     fn symbol_count(&self, n: usize) -> Result<usize, BadCall> {
-        if !(2..=MAX_BITS).contains(&n) {
-            return Err(BadCall);
-        }
-        Ok(self.symbols(n))
+        Ok(self.symbols(BitCount::new(n)?))
     }
 
     fn send(&self, prior: u8, bits: &[u8], symbols: &mut [u8]) -> Result<usize, BadCall> {
-        let count = self.symbol_count(bits.len())?;
-        if !are_bits(bits) || usize::from(prior) >= self.mapping.order() || symbols.len() < count {
+        let message = Message::new(bits)?;
+        let n = message.count();
+        let count = self.symbols(n);
+        if usize::from(prior) >= self.mapping.order() || symbols.len() < count {
             return Err(BadCall);
         }
-        let n = self.copies.count() * self.coded_bits(bits.len());
+        let places = self.copies.count() * self.coded_bits(n);
         let mut air = [0u8; MAX_AIR];
-        self.write_air(bits, &mut air[0..n]);
-        step_through(&self.mapping, prior, &air[0..n], &mut symbols[0..count]);
+        self.write_air(&message, &mut air[0..places]);
+        step_through(&self.mapping, prior, &air[0..places], &mut symbols[0..count]);
         Ok(count)
     }
 

@@ -11,6 +11,7 @@ mod decoder;
 pub mod fault;
 pub mod interleaver;
 pub mod laws;
+mod message;
 pub mod roomy;
 pub mod sharing;
 
@@ -19,12 +20,13 @@ ghost use Rattle.mode.specs.Examples.{Examples};
 ghost use Rattle.mode.specs.Faults.{number, place, hear_number, hear_place};
 
 pub use carrier::Carrier;
-pub use chain::{Chain, MAX_BITS};
+pub use chain::Chain;
 pub use choice::Choice;
 pub use copies::Copies;
 pub use fault::{HearFault, PartFault};
 pub use interleaver::{deinterleave, interleave};
 pub use laws::mode_laws;
+pub use message::MAX_BITS;
 pub use roomy::RoomyCode;
 pub use sharing::share;
 
