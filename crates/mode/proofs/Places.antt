@@ -1,5 +1,5 @@
 -- Where in the list a word's copies stand, and what hearing the words of a part says of it.
-use Rattle.std.proofs.Common.{◌≡◌, ℕ, ◌+◌, ◌-◌, ◌*◌, ◌/◌, ◌%◌, ◌<◌, ◌≤◌, List, ◌++◌, length, get_or, take, drop, Ok, Err, Result, MatchResult, IsErrAnd, sym, ap, ◌∙◌, mul-le-mul_right, mul-le-mul_left, arith}
+use Rattle.std.proofs.Common.{◌≡◌, ℕ, ◌+◌, ◌-◌, ◌*◌, ◌/◌, ◌%◌, ◌<◌, ◌≤◌, List, length, get_or, take, drop, Ok, Err, Result, MatchResult, IsErrAnd, sym, ap, ◌∙◌, mul-le-mul_right, mul-le-mul_left, arith}
 use native.Mathlib.Nat.{mul-div_cancel_left, sub-zero}
 use Rattle.std.proofs.lemmas.Nat.{div_below, le-div, div-add-mod', mod_below}
 use Rattle.std.proofs.lemmas.List.{take-map, drop-map, get_or-take, get_or-drop, length-take-le, length-drop}
@@ -18,7 +18,7 @@ use Rattle.mode.specs.Answers.{Faulty, HearsPart}
 use Rattle.mode.proofs.Turns.{forth_undoes, back_undoes}
 use Rattle.mode.proofs.Strings.{bits_at}
 use Rattle.mode.proofs.Moves.{copied_at}
-use Rattle.mode.proofs.Room.{air_few, front_is}
+use Rattle.mode.proofs.Room.{air_few}
 use Rattle.mode.proofs.Splits.{length-unsents, get_or-unsents}
 use Rattle.mode.proofs.Whole.{several, few_copies, wide, count_width, total_enough, copies_bits, copies_there}
 use Rattle.mode.proofs.Readings.{sized_more, sized-take}
@@ -169,18 +169,3 @@ heardable m L n s k hs o e f g = record {
   few = omega (arith, air_few m L n o.high);
   room = g;
 }
-
--- the same part, where its count of bits is held as the code has it
-pub there_at : (m : Mode) (list : List ℕ) (at n k : ℕ) → k ≡ n → There m list at n → There m list at k
-there_at m list at n k e t = rw e t
-
-pub count_at : (m : Mode) (n k c : ℕ) → k ≡ n → c ≡ count m n → c ≡ count m k
-count_at m n k c e f = rw e f
-
-pub reach_long : (m : Mode) (list : List ℕ) (at n k : ℕ) (xs : List ℕ) (c : ℕ) → k ≡ n → Reach m list at k xs c → length xs ≡ n
-reach_long m list at n k xs c e r = r.valid.size ∙ e
-
-pub reach_at : (m : Mode) (list : List ℕ) (at n k : ℕ) (xs rest zs : List ℕ) (c : ℕ) → k ≡ n → Reach m list at k xs c → zs ≡ take (n - 0) (xs ++ rest) → Reach m list at n zs c
-reach_at m list at n k xs rest zs c e r f =
-    let q : zs ≡ xs = f ∙ front_is xs rest n (reach_long m list at n k xs c e r) in
-    rw (q, ← e) r

@@ -14,13 +14,13 @@ use Rattle.mode.specs.declared.copies.Copies.TheVariants.{One, Two, Four}
 use Rattle.mode.specs.Shares.{words, unsents}
 use Rattle.mode.specs.Orders.{Movable, interleaved}
 use Rattle.mode.specs.Copying.{spread}
-use Rattle.mode.specs.Modes.{Mode, Lawful, Carried, coded, plain, pad, total, count, padded, air}
+use Rattle.mode.specs.Modes.{Mode, Lawful, coded, plain, pad, total, count, padded, air}
 use Rattle.mode.specs.Chains.{chained}
 use Rattle.mode.proofs.Splits.{words_room}
 use Rattle.mode.proofs.Moves.{copied_at}
 use Rattle.mode.proofs.Coding.{put_two}
 use Rattle.mode.proofs.Spoils.{length-spread}
-use Rattle.mode.proofs.Whole.{several, few_copies, wide, count_width, total_enough}
+use Rattle.mode.proofs.Whole.{few_copies, wide, count_width}
 
 pub chain_lawful : (c : Code) (s : Copies) (f : Map) → codes.Lawful c → 16 ≤ c.k → maps.Lawful f → Lawful (chained c s f)
 chain_lawful c One f l k r = record { code = l; roomy = k; copies = inl refl; map = r }
@@ -59,18 +59,6 @@ pub plain_adds : (m : Mode) (n : ℕ) → plain m n ≡ n + words m.code.k n * m
 unfolding plain
 plain_adds m n = refl
 
-pub plain_is : (m : Mode) (n j k p : ℕ) → k ≡ m.code.k → j ≡ words k n → p ≡ m.code.p → n + j * p ≡ plain m n
-unfolding plain
-plain_is m n j k p a b c = rw (b, a, c)
-
-pub total_is : (m : Mode) (n a w : ℕ) → a ≡ plain m n → w ≡ m.map.w → a + (w - a % w) % w ≡ total m n
-unfolding total pad
-total_is m n a w e f = rw (e, f)
-
-pub count_is : (m : Mode) (n s t w : ℕ) → s ≡ m.copies → t ≡ total m n → w ≡ m.map.w → s * t / w ≡ count m n
-unfolding count
-count_is m n s t w a b c = rw (a, b, c)
-
 -- the words with the zeros behind them
 pub padded_is : (m : Mode) (xs ws os zs : List ℕ) (a : ℕ) → ws ≡ coded m.code (unsents m.code.k (length xs)) xs → length ws ≡ a → a ≡ plain m (length xs) → length (ws ++ os) ≡ total m (length xs)
     → zs ≡ replicate (length (take (length (ws ++ os) - a) (drop a (ws ++ os)))) 0 → put_mid a (length (ws ++ os) - a) (ws ++ os) zs ≡ padded m xs
@@ -85,21 +73,6 @@ front_is xs ys n e = rw sub-zero (take_at xs ys n e)
 
 pub front_length : {A : Type 0} (xs ys : List A) (n : ℕ) → length xs ≡ n → length (take (n - 0) (xs ++ ys)) ≡ n
 front_length xs ys n e = ap length (front_is xs ys n e) ∙ e
-
--- what the copies of a part ask for
-pub record Copyable (s : ℕ) (ws us : List ℕ) : Type 0 where
-  pub several : 0 < s
-  pub enough : length ws ≡ 1 → ⊥
-  pub room : length us ≡ s * length ws
-  pub few : length us ≤ 33272
-
-pub copyable : (m : Mode) → Lawful m → (n s t : ℕ) (ws us : List ℕ) → Carried n → s ≡ m.copies → t ≡ total m n → length ws ≡ t → length us ≡ m.copies * total m n → Copyable s ws us
-copyable m L n s t ws us k e f g h = record {
-  several = rw e (several m L);
-  enough = λ o. total_enough m L n k.low (omega arith);
-  room = rw (e, g ∙ f) h;
-  few = omega (arith, air_few m L n k.high);
-}
 
 pub movable_front : {A : Type 0} (xs ys zs : List A) (n s t : ℕ) → length xs ≡ n → n ≡ s * t → 0 < s → (t ≡ 1 → ⊥) → length zs ≡ n → Movable s (take (n - 0) (xs ++ ys)) zs
 movable_front xs ys zs n s t e f p h l = rw (front_is xs ys n e) (rw (e ∙ f) (copied_at s t p h), l ∙ sym e)

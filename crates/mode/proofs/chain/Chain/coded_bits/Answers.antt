@@ -1,9 +1,11 @@
-use Rattle.std.proofs.Common.{arith}
-use Rattle.mode.proofs.Room.{chain_lawful, total_few, total_is}
+use Rattle.std.proofs.Common.{arith, rules}
+use Rattle.mode.specs.Modes.{total, pad}
+use Rattle.mode.proofs.Room.{chain_lawful, total_few}
 use Rattle.mode.proofs.chain.Chain.coded_bits.Goals as goal
 
 pub returns : goal.returns
-returns g c = total_is _ c.args.count.n _ _ c.word_bits-plain.ensures c.width-w.ensures
+unfolding total pad
+returns g c = search rules
 
 pub overflow_add-result : goal.overflow_add-result
 overflow_add-result g c =

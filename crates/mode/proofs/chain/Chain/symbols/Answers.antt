@@ -1,5 +1,6 @@
-use Rattle.std.proofs.Common.{arith}
-use Rattle.mode.proofs.Room.{chain_lawful, air_few, count_is}
+use Rattle.std.proofs.Common.{arith, rules}
+use Rattle.mode.specs.Modes.{count}
+use Rattle.mode.proofs.Room.{chain_lawful, air_few}
 use Rattle.mode.proofs.chain.Chain.symbols.Goals as goal
 
 pub overflow_mul-result : goal.overflow_mul-result
@@ -8,4 +9,5 @@ overflow_mul-result g c =
     rw (c.count.ensures, c.coded_bits.ensures) (omega (arith, air_few _ L c.args.count.n c.args.count.carried.high))
 
 pub returns : goal.returns
-returns g c = count_is _ c.args.count.n _ _ _ c.count.ensures c.coded_bits.ensures c.width.ensures
+unfolding count
+returns g c = search rules
