@@ -1,6 +1,6 @@
 -- Where in the list a word's copies stand, and what hearing the words of a part says of it.
 use Rattle.std.proofs.Common.{◌≡◌, ℕ, ◌+◌, ◌-◌, ◌*◌, ◌/◌, ◌%◌, ◌<◌, ◌≤◌, List, length, get_or, take, drop, Ok, Err, Result, MatchResult, IsErrAnd, sym, ap, ◌∙◌, mul-le-mul_right, mul-le-mul_left, arith}
-use native.Mathlib.Nat.{mul-div_cancel_left, sub-zero}
+use Rattle.std.proofs.Math.Nat.{mul-div_cancel_left, sub-zero}
 use Rattle.std.proofs.lemmas.Nat.{div_below, le-div, div-add-mod', mod_below}
 use Rattle.std.proofs.lemmas.List.{take-map, drop-map, get_or-take, get_or-drop, length-take-le, length-drop}
 use Rattle.std.specs.List.{AllByRecursion}

@@ -1,6 +1,6 @@
 -- How much room a part takes at most.
 use Rattle.std.proofs.Common.{◌≡◌, ℕ, ◌+◌, ◌-◌, ◌*◌, ◌/◌, ◌%◌, ◌<◌, ◌≤◌, List, ◌++◌, length, take, drop, replicate, sym, refl, ap, ◌∙◌, inl, inr, mul-le-mul_right, arith}
-use native.Mathlib.Nat.{mul-div_cancel_left, sub-zero}
+use Rattle.std.proofs.Math.Nat.{mul-div_cancel_left, sub-zero}
 use borrow.Rule.Slice.PartMut.{put_mid}
 use Rattle.std.proofs.lemmas.Nat.{mul-le, mod_below}
 use Rattle.std.proofs.lemmas.List.{take_at, length-take, length-drop}

@@ -1,6 +1,6 @@
 -- The counts of a mode, and the words of a part: copies are within reach of one list of bits only, and clean copies are.
 use Rattle.std.proofs.Common.{◌≡◌, ℕ, ◌+◌, ◌-◌, ◌*◌, ◌/◌, ◌%◌, ◌<◌, ◌≤◌, ◌⊎◌, List, [], ◌∷◌, ◌++◌, length, take, drop, replicate, sym, refl, ap, ◌∙◌, inl, inr, mod-eq_of_lt, mul-le-mul_left, mul-div_cancel, arith}
-use native.Mathlib.Nat.{mod_self, sub-zero}
+use Rattle.std.proofs.Math.Nat.{mod_self, sub-zero}
 use Rattle.std.proofs.lemmas.Bool.{cases_eq}
 use Rattle.std.specs.List.{AllByRecursion}
 use Rattle.std.proofs.lemmas.List.{length-drop, length-replicate, take-append-drop, nil_from_length, append_assoc, drop_at}

@@ -69,6 +69,7 @@ impl<C: RoomyCode, M: Mapping> Chain<C, M> {
         ensures { air.new ≡ air_of (⟦<Self as Carrier>⟧.mode self.now) message.now.bits.now }
     {
         let total = self.coded_bits(message.count());
+        // There is no heap: the buffer has room for the most coded bits.
         let mut coded = [0u8; MAX_CODED];
         self.write_coded(message, &mut coded[0..total]);
         put_copies(self.copies.count(), &coded[0..total], air);
@@ -117,9 +118,15 @@ impl<C: RoomyCode, M: Mapping> Carrier for Chain<C, M> {
             return Err(BadCall);
         }
         let places = self.copies.count() * self.coded_bits(n);
+        // There is no heap: the buffer has room for the longest part.
         let mut air = [0u8; MAX_AIR];
         self.write_air(&message, &mut air[0..places]);
-        step_through(&self.mapping, prior, &air[0..places], &mut symbols[0..count]);
+        step_through(
+            &self.mapping,
+            prior,
+            &air[0..places],
+            &mut symbols[0..count],
+        );
         Ok(count)
     }
 
@@ -130,6 +137,7 @@ impl<C: RoomyCode, M: Mapping> Carrier for Chain<C, M> {
             return Err(HearFault::Call(BadCall));
         }
         let places = count * self.mapping.width();
+        // There is no heap: each buffer has room for the longest part.
         let mut heard = [AirBit { bit: 0, symbol: 0 }; MAX_AIR];
         let mut message = [0u8; MAX_BITS];
         let spoilt = self.hear_part(list, at, count, &mut heard[0..places], &mut message[0..n])?;

@@ -1,4 +1,4 @@
-// One of two kinds of carrier, so that a plan can hold unlike modes.
+// One of two kinds of carrier, so that a plan can hold unlike modes. The crate `either` has such a type, but needs a heap.
 #[derive(Clone, Copy)]
 pub enum Choice<A, B> {
     First(A),

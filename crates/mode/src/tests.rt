@@ -89,3 +89,25 @@ fn tells_faults_by_their_index(rt: HostRuntime) -> Result<(), Fail> {
     assert_eq!(rt; heard(&[(7, 5)])?, Err(HearFault::Part(PartFault::Step(7))));
     Ok(())
 }
+
+#[test]
+fn makes_copies_from_their_count(rt: HostRuntime) -> Result<(), Fail> {
+    for count in [1, 2, 4] {
+        assert_eq!(rt; Copies::try_from(count)?.count(), count);
+    }
+    for count in [0, 3, 5] {
+        assert_eq!(rt; Copies::try_from(count), Err(BadCall));
+    }
+    Ok(())
+}
+
+#[test]
+fn carries_2_to_2112_bits(rt: HostRuntime) {
+    assert_eq!(rt; E1.symbol_count(2), Ok(1));
+    assert_eq!(rt; E1.symbol_count(MAX_BITS), Ok(704));
+    assert_eq!(rt; E1.symbol_count(MAX_BITS + 1), Err(BadCall));
+    let mut symbols = [0u8; 704];
+    assert_eq!(rt; E1.send(0, &[1], &mut symbols), Err(BadCall));
+    assert_eq!(rt; E1.send(0, &[1, 2], &mut symbols), Err(BadCall));
+    assert_eq!(rt; E1.send(0, &[1, 1], &mut symbols), Ok(1));
+}

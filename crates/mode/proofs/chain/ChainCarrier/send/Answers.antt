@@ -37,10 +37,9 @@ returns g c =
     let m = mode g a in
     let s = c.in_ok-message.message in
     let e = c.symbols-count.ensures ∙ ap (count m) c.count-n.ensures in
-    rw (← c.in_ok-message.ensures)
-    (
+    rw (← c.in_ok-message.ensures) (
       record { carried = s.carried; bits = s.valid; known = omega (arith, c.if-from-order.false, c.from.ensures, c.order.ensures); room = omega (arith, e, c.if-symbols-count.false) },
       e,
       sent_front m (lawful g a) s.bits.now _ _ _ s.carried s.valid c.count.ensures (c.coded_bits.ensures ∙ ap (total m) c.count-n.ensures) c.write_air.ensures
-      _ _ _ e c.if-symbols-count.false c.args.prior _ c.step_through.ensures,
+          _ _ _ e c.if-symbols-count.false c.args.prior _ c.step_through.ensures,
     )
