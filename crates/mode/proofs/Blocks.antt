@@ -1,9 +1,10 @@
 -- The whole de-interleaving is the de-interleavings of its blocks; and what it leaves of labelled bits.
 use Rattle.std.proofs.Common.{◌≡◌, ℕ, zero, suc, ◌+◌, ◌-◌, ◌*◌, ◌/◌, ◌%◌, ◌<◌, ◌≤◌, ◌⊎◌, List, [], ◌∷◌, ◌++◌, map, length, get_or, take, drop, set, sym, refl, ap, ◌∙◌, inl, inr, mul-le-mul_left, arith}
-use native.Mathlib.Nat.{mul-div_cancel_left, sub-zero}
+use Rattle.std.proofs.Math.Nat.{mul-div_cancel_left, sub-zero}
 use borrow.Rule.Slice.PartMut.{put_mid}
 use Rattle.std.specs.List.{range_with_len}
-use Rattle.std.proofs.lemmas.List.{same_lists, length-take-le, length-drop, length-map, get_or-take, get_or-drop, take-append-drop, take-take, drop-take, take_at, take_all, take_more, take_more_set}
+use Rattle.std.proofs.lemmas.Bool.{cases_lt}
+use Rattle.std.proofs.lemmas.List.{same_lists, length-append, length-take-le, length-drop, length-map, get_or-take, get_or-drop, take-append-drop, take-take, drop-take, drop-drop, take_at, drop_at, take_all, take_more, take_more_set}
 use Rattle.std.proofs.lemmas.Slice.{take-put_mid}
 use Rattle.std.proofs.lemmas.Nat.{div-mul-add, mod-mul-add, mul-le}
 use Rattle.mode.specs.declared.air_bit.AirBit.{AirBit}
@@ -226,6 +227,68 @@ module _ (s t w : ℕ) (bs : List ℕ) (p : 0 < s) (k : Enough t) (long : length
       let f : a ≡ s * t = ae ∙ ap (λ b. s * (3 * (t % 2)) + b * i) de ∙ ap (λ b. s * (3 * (t % 2)) + 2 * s * b) e ∙ omega (arith, lead_is s t, size s t k) in
       let n = length-deinterleaved s t (labelled w 0 bs) in
       sym (take_all a os (omega arith)) ∙ so ∙ take_all a D (omega (arith, labelled_long))
+
+-- where i pairs of bits are taken, and what is left is cut into blocks of so many
+pub record Taken (s t w : ℕ) (bs : List ℕ) (os : List AirBit) (i : ℕ) (rest : List ℕ) (size : ℕ) : Type 0 where
+  pub left : rest ≡ drop (s * (3 * (t % 2)) + 2 * s * i) bs
+  pub pair : size ≡ 2 * s
+  pub few : i ≤ t / 2 - t % 2
+  pub done : take (s * (3 * (t % 2)) + 2 * s * i) os ≡ take (s * (3 * (t % 2)) + 2 * s * i) (deinterleaved s t (labelled w 0 bs))
+
+module _ (s t w : ℕ) (bs : List ℕ) (p : 0 < s) (k : Enough t) (long : length bs ≡ s * t) where
+  pub taken_begin : (os us : List AirBit) (rest : List ℕ) → us ≡ deinterleaved s (length (take (s * (3 * (t % 2)) - 0) bs) / s) (labelled w 0 (take (s * (3 * (t % 2)) - 0) bs))
+      → rest ≡ take (length bs - s * (3 * (t % 2))) (drop (s * (3 * (t % 2))) bs) → Taken s t w bs (us ++ os) 0 rest (2 * s)
+  taken_begin os us rest e r =
+      let z : s * (3 * (t % 2)) + 2 * s * 0 ≡ s * (3 * (t % 2)) = omega arith in
+      record {
+        left = r ∙ take_all (length bs - s * (3 * (t % 2))) (drop (s * (3 * (t % 2))) bs) (simp length-drop (omega arith)) ∙ ap (λ n. drop n bs) (sym z);
+        pair = refl;
+        few = omega arith;
+        done = rw z (taken_first s t w bs p k long os us e);
+      }
+
+  module _ (os : List AirBit) (i : ℕ) (rest : List ℕ) (size : ℕ) (h : Taken s t w bs os i rest size) where
+    -- the next block is a pair that is there
+    pub block_there : (xs after : List ℕ) → rest ≡ xs ++ after → length xs ≡ size
+        → (i < t / 2 - t % 2) × (s * (3 * (t % 2)) + 2 * s * i + 2 * s ≤ length bs)
+        × (xs ≡ take (s * (3 * (t % 2)) + 2 * s * i + 2 * s - (s * (3 * (t % 2)) + 2 * s * i)) (drop (s * (3 * (t % 2)) + 2 * s * i) bs))
+        × (after ≡ drop (s * (3 * (t % 2)) + 2 * s * i + 2 * s) bs)
+    block_there xs after e l =
+        let f : xs ++ after ≡ drop (s * (3 * (t % 2)) + 2 * s * i) bs = sym e ∙ h.left in
+        let n : length xs ≡ 2 * s = l ∙ h.pair in
+        let fits : s * (3 * (t % 2)) + 2 * s * i + 2 * s ≤ length bs = omega (arith, ap length f, length-append xs after, length-drop (s * (3 * (t % 2)) + 2 * s * i) bs) in (
+          elim (cases_lt i (t / 2 - t % 2)) [
+            | inl b ↦ b
+            | inr b ↦
+                let m : s * (t + 1) ≤ s * (3 * (t % 2) + 2 * i + 2) = mul-le-mul_left s (omega arith) in
+                absurd (omega arith)
+          ],
+          fits,
+          sym (take_at xs after (s * (3 * (t % 2)) + 2 * s * i + 2 * s - (s * (3 * (t % 2)) + 2 * s * i)) (n ∙ omega arith)) ∙ ap (take (s * (3 * (t % 2)) + 2 * s * i + 2 * s - (s * (3 * (t % 2)) + 2 * s * i))) f,
+          sym (drop_at xs after (2 * s) n) ∙ ap (drop (2 * s)) f ∙ drop-drop (2 * s) (s * (3 * (t % 2)) + 2 * s * i) bs,
+        )
+
+    pub taken_next : (us : List AirBit) (xs after : List ℕ) (j : ℕ) → rest ≡ xs ++ after → length xs ≡ size → length os ≡ length bs → j ≡ i
+        → us ≡ deinterleaved s (length xs / s) (labelled w (s * (3 * (t % 2)) + 2 * s * j) xs)
+        → Taken s t w bs (put_mid (s * (3 * (t % 2)) + 2 * s * j) (s * (3 * (t % 2)) + 2 * s * j + 2 * s - (s * (3 * (t % 2)) + 2 * s * j)) os us) (i + 1) after size
+    taken_next us xs after j e l ol ji ue =
+        let b = block_there xs after e l in
+        let n : s * (3 * (t % 2)) + 2 * s * (i + 1) ≡ s * (3 * (t % 2)) + 2 * s * i + 2 * s = omega arith in
+        rw ji (record {
+          left = b.3 ∙ ap (λ m. drop m bs) (sym n);
+          pair = h.pair;
+          few = omega (arith, b.0);
+          done = taken_more s t w bs p k long os us (s * (3 * (t % 2)) + 2 * s * i) (2 * s) i _ refl refl b.0 n ol h.done (rw (ji, b.2) at ue);
+        })
+
+    pub taken_end : length rest < size → length os ≡ length bs → os ≡ deinterleaved s t (labelled w 0 bs)
+    taken_end l ol =
+        let e : i ≡ t / 2 - t % 2 =
+        elim (cases_lt i (t / 2 - t % 2)) [
+          | inl b ↦ absurd (omega (arith, pair_there s t w bs p k long i b, ap length h.left, length-drop (s * (3 * (t % 2)) + 2 * s * i) bs, h.pair))
+          | inr b ↦ omega (arith, h.few)
+        ] in
+        taken_all s t w bs p k long os (s * (3 * (t % 2)) + 2 * s * i) (2 * s) i refl refl e ol h.done
 
 -- what a block of b bits asks for
 pub record Blockable (s w from : ℕ) (xs : List ℕ) (os : List AirBit) : Type 0 where

@@ -1,5 +1,5 @@
 -- Writing the words of a part, copies of their bits, and the symbols of these, one after the other.
-use Rattle.std.proofs.Common.{◌≡◌, ℕ, suc, ◌+◌, ◌-◌, ◌*◌, ◌<◌, ◌≤◌, List, [], ◌∷◌, ◌++◌, length, get_or, take, drop, set, replicate, sym, refl, ap, ◌∙◌, mul-le-mul_right, mul-le-mul_left, arith}
+use Rattle.std.proofs.Common.{◌≡◌, ℕ, suc, ◌+◌, ◌-◌, ◌*◌, ◌<◌, ◌≤◌, List, [], ◌∷◌, ◌++◌, length, get_or, take, drop, set, replicate, sym, refl, ap, ◌∙◌, arith}
 use borrow.Rule.Slice.PartMut.{put_mid}
 use Rattle.std.specs.List.{AllByRecursion}
 use Rattle.std.proofs.lemmas.List.{append-nil, append_assoc, drop_all, take_at, length-append, length-drop, drop-drop, take_all, length-take, take_more, take_more_set, length-set}
@@ -14,7 +14,7 @@ use Rattle.mode.specs.Copying.{spread}
 use Rattle.mode.specs.Modes.{coded, stepped}
 use Rattle.mode.specs.Parts.{sized}
 use Rattle.mode.proofs.Splits.{carried, carried-unsents, length-unsents, unsents_below, unsents_more}
-use Rattle.mode.proofs.Strings.{part_bits}
+use Rattle.mode.proofs.Strings.{part_bits, row_there}
 use Rattle.mode.proofs.Spoils.{spread-append}
 use Rattle.mode.proofs.Whole.{sized-carried}
 
@@ -92,56 +92,52 @@ coding_all c xs os i from at j k h e w l =
     let z : drop i (unsents c.k (length xs)) ≡ [] = drop_all i (unsents c.k (length xs)) (omega (arith, length-unsents c.k (length xs))) in
     sym (take_all at os (omega (arith, h.room, ap (sized c) z))) ∙ sym (append-nil (take at os)) ∙ ap (λ us. take at os ++ coded c us (drop from xs)) (sym z) ∙ h.put
 
--- the copies of bit i have room
-pub room_there : (s n i e : ℕ) → e ≡ s * n → i < n → s * i + s ≤ e
-room_there s n i e h l = omega (arith, mul-le-mul_left s l)
-
 -- where the loop has copied i bits
-pub spread_more : (s : ℕ) (bs os ys : List ℕ) (i a : ℕ) → i < length bs → a ≡ s * i → a + s ≤ length os → take a os ≡ spread s (take i bs) → length ys ≡ a + s - a → ys ≡ replicate (length ys) (get_or bs i 0)
-    → take (a + s) (put_mid a (a + s - a) os ys) ≡ spread s (take (i + 1) bs)
-spread_more s bs os ys i a l e r h k f =
+pub spread_more : (s : ℕ) (bs os ys : List ℕ) (i : ℕ) → i < length bs → s * i + s ≤ length os → take (s * i) os ≡ spread s (take i bs) → length ys ≡ s * i + s - s * i → ys ≡ replicate (length ys) (get_or bs i 0)
+    → take (s * (i + 1)) (put_mid (s * i) (s * i + s - s * i) os ys) ≡ spread s (take (i + 1) bs)
+spread_more s bs os ys i l r h k f =
+    let a = s * i in
     let n : length ys ≡ s = omega arith in
+    let e : s * (i + 1) ≡ a + s = omega arith in
     let g : ys ≡ replicate s (get_or bs i 0) ++ [] = f ∙ ap (λ j. replicate j (get_or bs i 0)) n ∙ sym (append-nil (replicate s (get_or bs i 0))) in
-    take-put_mid a (a + s - a) os ys (a + s) (omega arith) (omega arith) ∙ ap (λ zs. zs ++ ys) h ∙ ap (λ zs. spread s (take i bs) ++ zs) g
+    ap (λ j. take j (put_mid a (a + s - a) os ys)) e ∙ take-put_mid a (a + s - a) os ys (a + s) (omega arith) (omega arith) ∙ ap (λ zs. zs ++ ys) h ∙ ap (λ zs. spread s (take i bs) ++ zs) g
     ∙ sym (spread-append s (take i bs) (get_or bs i 0 ∷ [])) ∙ ap (spread s) (sym (take_more bs i 0 l))
 
-pub spread_all : (s : ℕ) (bs os : List ℕ) (i a : ℕ) → length bs ≤ i → i ≤ length bs → a ≡ s * i → length os ≡ s * length bs → take a os ≡ spread s (take i bs) → os ≡ spread s bs
-spread_all s bs os i a l m e r h =
-    let j : i ≡ length bs = omega arith in
-    let f : a ≡ s * length bs = e ∙ ap (λ x. s * x) j in
-    sym (take_all a os (omega arith)) ∙ h ∙ ap (spread s) (take_all i bs l)
-
--- the bits of symbol i are there
-pub bits_there : (n w i e a : ℕ) → e ≡ n * w → i < n → a ≡ i * w → a + w ≤ e
-bits_there n w i e a h l k = omega (arith, mul-le-mul_right w l)
+pub spread_all : (s : ℕ) (bs os : List ℕ) (i : ℕ) → length bs ≤ i → i ≤ length bs → length os ≡ s * length bs → take (s * i) os ≡ spread s (take i bs) → os ≡ spread s bs
+spread_all s bs os i l m r h =
+    let f : s * i ≡ s * length bs = ap (λ x. s * x) (omega arith) in
+    sym (take_all (s * i) os (omega arith)) ∙ h ∙ ap (spread s) (take_all i bs l)
 
 -- where the loop has written i symbols, the last of which is p: what is written, and what is left to step through
-pub record Going (f : Map) (q : ℕ) (os bs : List ℕ) (i p a : ℕ) : Type 0 where
-  pub put : take i os ++ stepped f (length os - i) p (drop a bs) ≡ stepped f (length os) q bs
-  pub at : a ≡ i * f.w
+pub record Going (f : Map) (q : ℕ) (os bs : List ℕ) (i p : ℕ) : Type 0 where
+  pub put : take i os ++ stepped f (length os - i) p (drop (f.w * i) bs) ≡ stepped f (length os) q bs
   pub known : p < f.q
 
-pub going_none : (f : Map) (q : ℕ) (os bs : List ℕ) → q < f.q → Going f q os bs 0 q 0
-going_none f q os bs l = record { put = ap (λ j. stepped f j q bs) (omega arith); at = omega arith; known = l }
+pub going_none : (f : Map) (q : ℕ) (os bs : List ℕ) → q < f.q → Going f q os bs 0 q
+going_none f q os bs l =
+    let z : f.w * 0 ≡ 0 = omega arith in
+    record { put = rw z (ap (λ j. stepped f j q bs) (omega arith)); known = l }
 
-module _ (f : Map) (L : maps.Lawful f) (q : ℕ) (os bs : List ℕ) (i p a : ℕ) (h : Going f q os bs i p a) (b : Bits (length os * f.w) bs) where
-  pub going_bits : (v : ℕ) → i < length os → v ≡ f.w → Bits f.w (take (a + v - a) (drop a bs))
-  going_bits v l e = part_bits a v f.w bs (omega (arith, bits_there (length os) f.w i (length bs) a b.size l h.at)) e b.bits
+module _ (f : Map) (L : maps.Lawful f) (q : ℕ) (os bs : List ℕ) (i p : ℕ) (h : Going f q os bs i p) (b : Bits (length os * f.w) bs) (l : i < length os) where
+  pub going_bits : (v : ℕ) → v ≡ f.w → Bits f.w (take (v * i + v - v * i) (drop (v * i) bs))
+  going_bits v e = rw e (part_bits (f.w * i) f.w f.w bs (row_there f.w (length os) i (length bs) (b.size ∙ omega arith) l) refl b.bits)
 
-  pub going_more : (v r : ℕ) → i < length os → v ≡ f.w → r ≡ f.next p (take (a + v - a) (drop a bs)) → Going f q (set os i r) bs (i + 1) r (a + v)
-  going_more v r l e x =
-      let m : a + v - a ≡ f.w = omega arith in
+  pub going_more : (v r : ℕ) → v ≡ f.w → r ≡ f.next p (take (v * i + v - v * i) (drop (v * i) bs)) → Going f q (set os i r) bs (i + 1) r
+  going_more v r e o =
+      let a = f.w * i in
+      let x : r ≡ f.next p (take (a + f.w - a) (drop a bs)) = rw e at o in
+      let m : a + f.w - a ≡ f.w = omega arith in
+      let s : f.w * (i + 1) ≡ a + f.w = omega arith in
       let y : r ≡ f.next p (take f.w (drop a bs)) = x ∙ ap (λ n. f.next p (take n (drop a bs))) m in
       let n : length os - i ≡ suc (length os - (i + 1)) = omega arith in
       let z : take (i + 1) (set os i r) ++ stepped f (length (set os i r) - (i + 1)) r (drop (a + f.w) bs) ≡ take i os ++ stepped f (length os - i) p (drop a bs) =
       rw (take_more_set os i r l, length-set, n, drop-drop, ← y) (append_assoc (take i os) (r ∷ []) (stepped f (length os - (i + 1)) r (drop (a + f.w) bs))) in
       record {
-        put = rw e (z ∙ h.put ∙ ap (λ j. stepped f j q bs) (sym (length-set os i r)));
-        at = omega (arith, h.at);
-        known = rw x (L.below p (take (a + v - a) (drop a bs)) h.known (going_bits v l e));
+        put = rw s (z ∙ h.put ∙ ap (λ j. stepped f j q bs) (sym (length-set os i r)));
+        known = rw x (L.below p (take (a + f.w - a) (drop a bs)) h.known (going_bits f.w refl));
       }
 
-pub going_all : (f : Map) (q : ℕ) (os bs : List ℕ) (n i p a : ℕ) → length os ≡ n → n ≤ i → Going f q os bs i p a → os ≡ stepped f n q bs
-going_all f q os bs n i p a e l h =
+pub going_all : (f : Map) (q : ℕ) (os bs : List ℕ) (n i p : ℕ) → length os ≡ n → n ≤ i → Going f q os bs i p → os ≡ stepped f n q bs
+going_all f q os bs n i p e l h =
     let z : length os - i ≡ 0 = omega arith in
-    sym (append-nil os) ∙ ap (λ ys. ys ++ []) (sym (take_all i os (omega arith))) ∙ ap (λ j. take i os ++ stepped f j p (drop a bs)) (sym z) ∙ h.put ∙ ap (λ j. stepped f j q bs) e
+    sym (append-nil os) ∙ ap (λ ys. ys ++ []) (sym (take_all i os (omega arith))) ∙ ap (λ j. take i os ++ stepped f j p (drop (f.w * i) bs)) (sym z) ∙ h.put ∙ ap (λ j. stepped f j q bs) e

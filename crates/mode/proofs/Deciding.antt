@@ -1,9 +1,11 @@
 -- Deciding bits from their copies, counting those that are spoilt, and the lowest symbol, one element after the other.
-use Rattle.std.proofs.Common.{◌≡◌, ℕ, suc, ◌+◌, ◌-◌, ◌*◌, ◌<◌, ◌≤◌, List, [], ◌∷◌, ◌++◌, length, get_or, take, drop, set, sym, ap, ◌∙◌, inl, inr, mul-le-mul_left, arith}
-use Rattle.std.specs.List.{AllByRecursion}
+use Rattle.std.proofs.Common.{◌≡◌, ℕ, zero, suc, ◌+◌, ◌-◌, ◌*◌, ◌<◌, ◌≤◌, ◌⊎◌, min, cond, eqb, fold, List, [], ◌∷◌, ◌++◌, length, get_or, take, drop, set, sym, refl, ap, ◌∙◌, inl, inr, arith}
+use Rattle.std.specs.List.{AllByRecursion, count_by}
+use Rattle.std.proofs.Math.Bool.{not}
+use Rattle.std.proofs.lemmas.List.Recursion.{is_count_by}
 use Rattle.std.proofs.lemmas.List.{at_drop_more, at_drop_all, drop-drop, length-take, length-map, take-map, drop-map, append-nil, append_assoc, take_all, take_more_set, length-set}
 use Rattle.std.proofs.ByRecursion.{All-get_or}
-use Rattle.std.proofs.lemmas.Bool.{eq-eqb, ne_eqb, le-leb, lt-leb, lt-ltb, le-ltb, cases_eq}
+use Rattle.std.proofs.lemmas.Bool.{eq-eqb, ne_eqb, le-leb, lt-leb, lt-ltb, le-ltb, cases_eq, cases_lt}
 use Rattle.bits.specs.Strings.{Bit}
 use Rattle.mode.specs.declared.air_bit.AirBit.{AirBit}
 use Rattle.mode.specs.Copying.{differing, majority, decided, spoilt}
@@ -30,16 +32,15 @@ bits_part hs a n =
     let e : a + n - a ≡ n = omega arith in
     rw e (sym (take-map (λ h. h.bit) n (drop a hs)) ∙ ap (take n) (sym (drop-map (λ h. h.bit) a hs)))
 
-pub differing_same : (b : ℕ) (hs : List AirBit) (i : ℕ) → i < length hs → (get_or hs i none).bit ≡ b → differing b (drop i (bits_of hs)) ≡ differing b (drop (i + 1) (bits_of hs))
-differing_same b hs i l e =
-    at_drop_more (differing b) (bits_of hs) i 0 (omega (arith, length_bits hs)) ∙ rw (eq-eqb b (get_or (bits_of hs) i 0) (sym e ∙ bit_is hs i)) (omega arith)
-
-pub differing_other : (b : ℕ) (hs : List AirBit) (i : ℕ) → i < length hs → ((get_or hs i none).bit ≡ b → ⊥) → differing b (drop i (bits_of hs)) ≡ 1 + differing b (drop (i + 1) (bits_of hs))
-differing_other b hs i l n =
-    at_drop_more (differing b) (bits_of hs) i 0 (omega (arith, length_bits hs)) ∙ rw (ne_eqb b (get_or (bits_of hs) i 0) (λ e. n (bit_is hs i ∙ sym e))) (omega arith)
-
-pub differing_end : (b : ℕ) (hs : List AirBit) (i : ℕ) → length hs ≤ i → differing b (drop i (bits_of hs)) ≡ 0
-differing_end b hs i l = at_drop_all (differing b) (bits_of hs) i (omega (arith, length_bits hs))
+-- copies that differ, as the code counts them
+pub differing_count : (b : ℕ) (hs : List AirBit) → differing b (bits_of hs) ≡ count_by (λ h. not (eqb h.bit b)) hs
+differing_count b hs = is_count_by (λ hs. differing b (bits_of hs)) (λ h. not (eqb h.bit b)) refl one hs
+  where
+    one : (h : AirBit) (hs : List AirBit) → cond (eqb b h.bit) 0 1 + differing b (bits_of hs) ≡ cond (not (eqb h.bit b)) (1 + differing b (bits_of hs)) (differing b (bits_of hs))
+    one h hs = elim (cases_eq b h.bit) [
+      | inl e ↦ rw (eq-eqb b h.bit e, eq-eqb h.bit b (sym e)) (omega arith)
+      | inr n ↦ rw (ne_eqb b h.bit n, ne_eqb h.bit b (λ e. n (sym e))) (omega arith)
+    ]
 
 module _ (hs : List AirBit) (r : ℕ) (e : r ≡ differing (get_or hs 0 none).bit (bits_of hs)) where
   counted : r ≡ differing (get_or (bits_of hs) 0 0) (bits_of hs)
@@ -59,29 +60,25 @@ module _ (hs : List AirBit) (r : ℕ) (e : r ≡ differing (get_or hs 0 none).bi
   majority_first l =
       rw (le-ltb (length (bits_of hs)) (2 * differing (get_or (bits_of hs) 0 0) (bits_of hs)) (omega (arith, counted, length_bits hs, against_le))) (bit_is hs 0)
 
--- the copies of bit i are there
-pub copies_at : (s n i e : ℕ) → e ≡ s * n → i < n → s * i + s ≤ e
-copies_at s n i e h l = omega (arith, mul-le-mul_left s l)
+-- i bits are decided
+abbrev pub Decided : ℕ → List ℕ → List ℕ → ℕ → Type 0
+Decided s es ws i = take i ws ++ decided s (length ws - i) (drop (s * i) es) ≡ decided s (length ws) es
 
--- i bits are decided, from the first a copies
-pub record Decided (s : ℕ) (es ws : List ℕ) (i a : ℕ) : Type 0 where
-  pub at : a ≡ s * i
-  pub put : take i ws ++ decided s (length ws - i) (drop a es) ≡ decided s (length ws) es
+pub decided_none : (s : ℕ) (es ws : List ℕ) → Decided s es ws 0
+decided_none s es ws = let z : s * 0 ≡ 0 = omega arith in rw z (ap (λ j. decided s j es) (omega arith))
 
-pub decided_none : (s : ℕ) (es ws : List ℕ) → Decided s es ws 0 0
-decided_none s es ws = record { at = omega arith; put = ap (λ j. decided s j es) (omega arith) }
-
-pub decided_more : (s : ℕ) (es ws : List ℕ) (i a r : ℕ) → Decided s es ws i a → i < length ws → r ≡ majority (take s (drop a es)) → Decided s es (set ws i r) (i + 1) (a + s)
-decided_more s es ws i a r h l e =
+pub decided_more : (s : ℕ) (es ws : List ℕ) (i r : ℕ) → Decided s es ws i → i < length ws → r ≡ majority (take s (drop (s * i) es)) → Decided s es (set ws i r) (i + 1)
+decided_more s es ws i r h l e =
     let n : length ws - i ≡ suc (length ws - (i + 1)) = omega arith in
-    let z : take (i + 1) (set ws i r) ++ decided s (length ws - (i + 1)) (drop (a + s) es) ≡ take i ws ++ decided s (length ws - i) (drop a es) =
-    rw (take_more_set ws i r l, n, drop-drop, ← e) (append_assoc (take i ws) (r ∷ []) (decided s (length ws - (i + 1)) (drop (a + s) es))) in
-    record { at = omega (arith, h.at); put = rw length-set (z ∙ h.put) }
+    let a : s * (i + 1) ≡ s * i + s = omega arith in
+    let z : take (i + 1) (set ws i r) ++ decided s (length ws - (i + 1)) (drop (s * i + s) es) ≡ take i ws ++ decided s (length ws - i) (drop (s * i) es) =
+    rw (take_more_set ws i r l, n, drop-drop, ← e) (append_assoc (take i ws) (r ∷ []) (decided s (length ws - (i + 1)) (drop (s * i + s) es))) in
+    rw (length-set, a) (z ∙ h)
 
-pub decided_all : (s : ℕ) (es ws : List ℕ) (n i a : ℕ) → length ws ≡ n → n ≤ i → Decided s es ws i a → ws ≡ decided s n es
-decided_all s es ws n i a e l h =
+pub decided_all : (s : ℕ) (es ws : List ℕ) (n i : ℕ) → length ws ≡ n → n ≤ i → Decided s es ws i → ws ≡ decided s n es
+decided_all s es ws n i e l h =
     let z : length ws - i ≡ 0 = omega arith in
-    sym (append-nil ws) ∙ ap (λ us. us ++ []) (sym (take_all i ws (omega arith))) ∙ ap (λ j. take i ws ++ decided s j (drop a es)) (sym z) ∙ h.put ∙ ap (λ j. decided s j es) e
+    sym (append-nil ws) ∙ ap (λ us. us ++ []) (sym (take_all i ws (omega arith))) ∙ ap (λ j. take i ws ++ decided s j (drop (s * i) es)) (sym z) ∙ h ∙ ap (λ j. decided s j es) e
 
 pub spoilt_yes : (s : ℕ) (ws es : List ℕ) (i a : ℕ) → i < length ws → s ≤ 2 * differing (get_or ws i 0) (take s (drop a es))
     → spoilt s (drop i ws) (drop a es) ≡ 1 + spoilt s (drop (i + 1) ws) (drop (a + s) es)
@@ -101,38 +98,29 @@ against_is b a s r hs e = e ∙ ap (differing b) (bits_part hs a s)
 pub against_few : (b a s r : ℕ) (hs : List AirBit) → r ≡ differing b (take s (drop a (bits_of hs))) → r ≤ s
 against_few b a s r hs e = omega (arith, differing-le b (take s (drop a (bits_of hs))), length-take s (drop a (bits_of hs)))
 
--- the lowest symbol of the first i bits
-pub record Low (hs : List AirBit) (i r : ℕ) : Type 0 where
-  pub place : ℕ
-  pub there : place < length hs
-  pub is : get_or (symbols_of hs) place 0 ≡ r
-  pub least : (k : ℕ) → k < i → r ≤ get_or (symbols_of hs) k 0
+-- the lowest symbol, as the code folds it
+abbrev pub lower : ℕ → AirBit → ℕ
+lower a h = min a h.symbol
 
-module _ (hs : List AirBit) where
-  pub low_none : 0 < length hs → Low hs 0 (get_or hs 0 none).symbol
-  low_none p = record { place = 0; there = p; is = sym (symbol_is hs 0); least = λ k l. absurd (omega arith) }
+pub lower_all : (hs : List AirBit) (a : ℕ) → (fold lower a hs ≤ a) × ((k : ℕ) → k < length hs → fold lower a hs ≤ get_or (symbols_of hs) k 0)
+    × ((fold lower a hs ≡ a) ⊎ ((k : ℕ) × (k < length hs) × (get_or (symbols_of hs) k 0 ≡ fold lower a hs)))
+lower_all [] a = (omega arith, λ k l. absurd (omega arith), inl refl)
+lower_all (h ∷ hs) a = let ih = lower_all hs (min a h.symbol) in (omega (arith, ih.0), below ih.0 ih.1, reached ih.2)
+  where
+    below : fold lower (min a h.symbol) hs ≤ min a h.symbol → ((k : ℕ) → k < length hs → fold lower (min a h.symbol) hs ≤ get_or (symbols_of hs) k 0)
+        → (k : ℕ) → k < length (h ∷ hs) → fold lower (min a h.symbol) hs ≤ get_or (symbols_of (h ∷ hs)) k 0
+    below l f zero b = omega (arith, l)
+    below l f (suc k) b = f k (omega arith)
 
-  pub low_other : (i r : ℕ) → Low hs i r → i < length hs → (get_or hs i none).symbol < r → Low hs (i + 1) (get_or hs i none).symbol
-  low_other i r h l m = record {
-    place = i;
-    there = l;
-    is = sym (symbol_is hs i);
-    least = λ k b. elim (cases_eq k i) [
-      | inl e ↦ omega (arith, symbol_is hs i, ap (λ j. get_or (symbols_of hs) j 0) e)
-      | inr n ↦ omega (arith, h.least k (omega arith))
-    ];
-  }
+    reached : ((fold lower (min a h.symbol) hs ≡ min a h.symbol) ⊎ ((k : ℕ) × (k < length hs) × (get_or (symbols_of hs) k 0 ≡ fold lower (min a h.symbol) hs)))
+        → (fold lower (min a h.symbol) hs ≡ a) ⊎ ((k : ℕ) × (k < length (h ∷ hs)) × (get_or (symbols_of (h ∷ hs)) k 0 ≡ fold lower (min a h.symbol) hs))
+    reached (inl e) = elim (cases_lt a h.symbol) [ inl l ↦ inl (omega (arith, e)) | inr l ↦ inr (0, omega arith, omega (arith, e)) ]
+    reached (inr x) = inr (suc x.0, omega (arith, x.1), x.2)
 
-  pub low_same : (i r : ℕ) → Low hs i r → r ≤ (get_or hs i none).symbol → Low hs (i + 1) r
-  low_same i r h m = record {
-    place = h.place;
-    there = h.there;
-    is = h.is;
-    least = λ k b. elim (cases_eq k i) [
-      | inl e ↦ omega (arith, symbol_is hs i, ap (λ j. get_or (symbols_of hs) j 0) e)
-      | inr n ↦ h.least k (omega arith)
-    ];
-  }
-
-  pub low_all : (i r : ℕ) → Low hs i r → length hs ≤ i → Lowest hs r
-  low_all i r h l = record { place = h.place; there = h.there; is = h.is; least = λ k b. h.least k (omega arith) }
+pub lowest_is : (hs : List AirBit) (r : ℕ) → 0 < length hs → r ≡ fold lower (get_or hs 0 none).symbol hs → Lowest hs r
+lowest_is hs r p e =
+    let l = lower_all hs (get_or hs 0 none).symbol in
+    rw e (elim l.2 [
+      | inl f ↦ record { place = 0; there = p; is = sym (f ∙ symbol_is hs 0); least = l.1 }
+      | inr x ↦ record { place = x.0; there = x.1; is = x.2; least = l.1 }
+    ])

@@ -1,9 +1,11 @@
 -- A word is found exactly when some word has at most t spoilt bits; and the words of a part, one after the other.
-use Rattle.std.proofs.Common.{◌≡◌, ℕ, zero, suc, ◌+◌, ◌-◌, ◌*◌, ◌<◌, ◌≤◌, List, [], ◌∷◌, ◌++◌, length, get_or, take, drop, Err, sym, refl, ap, ◌∙◌, inl, inr, mul-le-mul_left, arith}
+use Rattle.std.proofs.Common.{◌≡◌, ℕ, zero, suc, ◌+◌, ◌-◌, ◌*◌, ◌<◌, ◌≤◌, List, [], ◌∷◌, ◌++◌, length, get_or, take, drop, Err, sym, refl, ap, ◌∙◌, inl, inr, mul-le-mul_left, arith, leb, Some, None, Ok, Result}
 use Rattle.std.specs.List.{AllByRecursion}
 use Rattle.std.proofs.lemmas.List.{length-take-le, length-drop, length-append, append_assoc, drop-drop, drop_all, take_all, take_more, take-append-drop, take-append-le, drop-append-le, nil_from_length}
 use Rattle.std.proofs.ByRecursion.{All-append}
-use Rattle.std.proofs.lemmas.Bool.{cases_lt}
+use Rattle.std.specs.Bool.{then_some}
+use Rattle.std.specs.Result.{result_ok}
+use Rattle.std.proofs.lemmas.Bool.{cases_lt, lt-leb, le-leb}
 use Rattle.bits.specs.Strings.{Bit, Bits}
 use Rattle.block_code.specs.Codes.{Code, word, distance, shortened}
 use Rattle.block_code.specs.Codes as codes
@@ -17,7 +19,7 @@ use Rattle.mode.specs.Copying.{decided, spoilt}
 use Rattle.mode.specs.Parts.{First, Within, spoilt_all, Lost, sized}
 use Rattle.mode.specs.declared.air_bit.AirBit.{AirBit}
 use Rattle.mode.specs.Heard.{Lowest}
-use Rattle.mode.specs.Hearing.{NearWord, FarWord}
+use Rattle.mode.specs.Hearing.{NearWord, FarWord, HearsWord}
 use Rattle.mode.proofs.Strings.{bits_at}
 use Rattle.mode.proofs.Spoils.{decided_bits, decided_near, word_bits, spoilt-front, spoilt-le}
 use Rattle.mode.proofs.Splits.{carried, words_room, carried-unsents, length-unsents, get_or-unsents, unsent_below, unsents_more}
@@ -41,7 +43,7 @@ module _ (c : Code) (L : codes.Lawful c) (s : ℕ) (es : List ℕ) (p : 0 < s) (
 
   module _ (after : List ℕ) (j : ℕ) (h : Corrected c before after j) where
     -- too many bits of the corrected word are spoilt
-    pub spoilt-word : c.t < spoilt s after es → FarWord c s es
+    spoilt-word : c.t < spoilt s after es → FarWord c s es
     spoilt-word l x b = elim (cases_lt c.t (spoilt s (word c x) es)) [
       | inl q ↦ q
       | inr q ↦
@@ -51,8 +53,24 @@ module _ (c : Code) (L : codes.Lawful c) (s : ℕ) (es : List ℕ) (p : 0 < s) (
           absurd (omega arith)
     ]
 
-    pub found_word : (r : ℕ) → r ≡ spoilt s after es → r ≤ c.t → (x : List ℕ) × NearWord c s es x r × (after ≡ word c x)
+    found_word : (r : ℕ) → r ≡ spoilt s after es → r ≤ c.t → (x : List ℕ) × NearWord c s es x r × (after ≡ word c x)
     found_word r e l = (h.message, record { valid = h.valid; count = ap (λ w. spoilt s w es) (sym h.is) ∙ sym e; within = l }, h.is)
+
+    -- either, as the code answers it
+    pub heard_word : (r b : ℕ) → r ≡ spoilt s after es → b ≡ c.t → HearsWord c s es after (then_some (leb r b) r)
+    heard_word r b e f = elim (cases_lt b r) [
+      | inl l ↦ rw (lt-leb r b l) (spoilt-word (omega arith))
+      | inr l ↦ rw (le-leb r b l) (found_word r e (omega arith))
+    ]
+
+-- what `ok` makes of a refusal, and of an answer
+pub refused : {T E : Type 0} (r : Result T E) → None ≡ result_ok r → (e : E) × (r ≡ Err e)
+refused (Ok x) h = absurd (let z : ◌≡◌ {A = ℕ} 0 1 = cc in omega arith)
+refused (Err e) h = (e, refl)
+
+pub answered : {T E : Type 0} (r : Result T E) (x : T) → Some x ≡ result_ok r → r ≡ Ok x
+answered (Ok y) x h = cc
+answered (Err e) x h = absurd (let z : ◌≡◌ {A = ℕ} 0 1 = cc in omega arith)
 
 -- the message at the front of a word
 module _ (c : Code) (s : ℕ) (es x ws : List ℕ) (n : ℕ) (h : NearWord c s es x n) (e : ws ≡ word c x) where
@@ -244,15 +262,15 @@ hearing_all c s es os n j from at total i k h e w l o =
     (record { size = o; bits = rw q at h.bits }, rw (t, q) at h.within, rw (t, q) at h.counts)
 
 -- the copies of a word are some
-pub copies_some : (c : Code) (s : ℕ) (es : List ℕ) (n j from at m u : ℕ) → 0 < s → Next c s es n j from at m u → 0 < s * (m + c.p)
-copies_some c s es n j from at m u p x =
+pub word_some : (c : Code) (s : ℕ) (es : List ℕ) (n j from at m u : ℕ) → 0 < s → Next c s es n j from at m u → 0 < s * (m + c.p)
+word_some c s es n j from at m u p x =
     let a : 1 ≤ m + c.p = omega (arith, x.bits, x.below) in
     omega (arith, mul-le-mul_left s a)
 
 -- the lowest symbol of the copies that the code cuts out
-pub lowest_at : (c : Code) (s : ℕ) (es os : List ℕ) (hs : List AirBit) (n j from at total m u p r : ℕ) → Hearing c s es os n j from at total → Next c s es n j from at m u → p ≡ c.p
-    → Lowest (take (at + s * (m + p) - at) (drop at hs)) r → Lowest (take (s * (c.k - unsent c.k n j + c.p)) (drop (s * sized c (take j (unsents c.k n))) hs)) r
-lowest_at c s es os hs n j from at total m u p r h x e l =
-    let a : at + s * (m + p) - at ≡ s * (m + p) = omega arith in
-    let b : s * (m + p) ≡ s * (c.k - unsent c.k n j + c.p) = ap (λ q. s * (m + q)) e ∙ ap (λ q. s * (q + c.p)) (x.bits ∙ ap (λ q. c.k - q) x.unsent) in
+pub lowest_at : (c : Code) (s : ℕ) (es os : List ℕ) (hs : List AirBit) (n j from at total m u y r : ℕ) → Hearing c s es os n j from at total → Next c s es n j from at m u → y ≡ s * (m + c.p)
+    → Lowest (take (at + y - at) (drop at hs)) r → Lowest (take (s * (c.k - unsent c.k n j + c.p)) (drop (s * sized c (take j (unsents c.k n))) hs)) r
+lowest_at c s es os hs n j from at total m u y r h x e l =
+    let a : at + y - at ≡ y = omega arith in
+    let b : y ≡ s * (c.k - unsent c.k n j + c.p) = e ∙ ap (λ q. s * (q + c.p)) (x.bits ∙ ap (λ q. c.k - q) x.unsent) in
     rw (← h.place, ← (a ∙ b)) l

@@ -1,11 +1,12 @@
 -- Where in the list a word's copies stand, and what hearing the words of a part says of it.
-use Rattle.std.proofs.Common.{◌≡◌, ℕ, ◌+◌, ◌-◌, ◌*◌, ◌/◌, ◌%◌, ◌<◌, ◌≤◌, List, length, get_or, take, drop, Ok, Err, Result, MatchResult, IsErrAnd, sym, ap, ◌∙◌, mul-le-mul_right, mul-le-mul_left, arith}
+use Rattle.std.proofs.Common.{◌≡◌, ℕ, ◌+◌, ◌-◌, ◌*◌, ◌/◌, ◌%◌, ◌<◌, ◌≤◌, List, length, get_or, take, drop, Ok, Err, Result, sym, ap, ◌∙◌, mul-le-mul_right, mul-le-mul_left, arith, refl}
 use Rattle.std.proofs.Math.Nat.{mul-div_cancel_left, sub-zero}
 use Rattle.std.proofs.lemmas.Nat.{div_below, le-div, div-add-mod', mod_below}
 use Rattle.std.proofs.lemmas.List.{take-map, drop-map, get_or-take, get_or-drop, length-take-le, length-drop}
 use Rattle.std.specs.List.{AllByRecursion}
 use Rattle.bits.specs.Strings.{Bit}
 use Rattle.mode.specs.declared.air_bit.AirBit.{AirBit}
+use Rattle.mode.specs.declared.decoder.LostWord.{LostWord}
 use Rattle.mode.specs.declared.fault.PartFault.{PartFault}
 use Rattle.mode.specs.declared.fault.PartFault.TheVariants.{Word}
 use Rattle.mode.specs.Shares.{words, unsent, unsents}
@@ -20,7 +21,7 @@ use Rattle.mode.proofs.Strings.{bits_at}
 use Rattle.mode.proofs.Moves.{copied_at}
 use Rattle.mode.proofs.Room.{air_few}
 use Rattle.mode.proofs.Splits.{length-unsents, get_or-unsents}
-use Rattle.mode.proofs.Whole.{several, few_copies, wide, count_width, total_enough, copies_bits, copies_there}
+use Rattle.mode.proofs.Whole.{several, wide, count_width, total_enough, copies_bits, copies_there}
 use Rattle.mode.proofs.Readings.{sized_more, sized-take}
 use Rattle.mode.proofs.Blocks.{bits_deinterleaved, symbol_deinterleaved, length-deinterleaved, length-labelled}
 
@@ -126,7 +127,7 @@ module _ (m : Mode) (L : Lawful m) (list : List ℕ) (at n : ℕ) (t : There m l
     pub heard_room : m.copies * sized m.code (unsents m.code.k n) ≤ length hs
     heard_room = omega (arith, heard_long, copies_there m L n)
 
-    pub heard_reach : (after : List ℕ) (c : ℕ) → HearsWords m.code m.copies hs n after (Ok c) → Reach m list at n after c
+    heard_reach : (after : List ℕ) (c : ℕ) → HearsWords m.code m.copies hs n after (Ok c) → Reach m list at n after c
     heard_reach after c h = record {
       there = t;
       valid = h.0;
@@ -136,17 +137,16 @@ module _ (m : Mode) (L : Lawful m) (list : List ℕ) (at n : ℕ) (t : There m l
       counts = rw heard_as at h.2;
     }
 
-    pub heard_lost : (after : List ℕ) (c : ℕ) → HearsWords m.code m.copies hs n after (Err c) → Faulty m list at n (Word (at + 1 + c))
-    heard_lost after c h =
+    heard_lost : (after : List ℕ) (w : LostWord) → HearsWords m.code m.copies hs n after (Err w) → Faulty m list at n (Word (at + 1 + w.symbol))
+    heard_lost after w h =
         let f : First (Lost m.code m.copies (unsents m.code.k n) (copies_of m n bs)) (words m.code.k n) h.0 = rw heard_as at h.1 in
-        (bs, r, (h.0, f, lowest_holds m L at n h.0 t.carried.low h.1.below bs read_size c (rw e at h.2)))
+        (bs, r, (h.0, f, lowest_holds m L at n h.0 t.carried.low h.1.below bs read_size w.symbol (rw e at h.2)))
 
-    -- the answer for a part, where the place q of a lost word's fault is the code's
-    pub heard_part : {q : ℕ → PartFault → Type 0} (after : List ℕ) (r : Result ℕ ℕ) (f : Result ℕ PartFault) → ((c : ℕ) (y : PartFault) → q c y → y ≡ Word (at + 1 + c))
-        → HearsWords m.code m.copies hs n after r → MatchResult r (λ c. f ≡ Ok c) (λ c. IsErrAnd f (q c)) → HearsPart m list at n after f
-    heard_part after (Ok c) f k h e = rw e (heard_reach after c h)
-    heard_part after (Err c) (Ok d) k h e = absurd e
-    heard_part after (Err c) (Err y) k h e = rw (k c y e) (heard_lost after c h)
+    -- either, where the fault stands in the place of the lost word
+    pub heard_part : (after : List ℕ) (r : Result ℕ LostWord) (q : Result ℕ PartFault) → HearsWords m.code m.copies hs n after r
+        → ((c : ℕ) → r ≡ Ok c → q ≡ Ok c) → ((w : LostWord) → r ≡ Err w → q ≡ Err (Word (at + 1 + w.symbol))) → HearsPart m list at n after q
+    heard_part after (Ok c) q h f g = rw (f c refl) (heard_reach after c h)
+    heard_part after (Err w) q h f g = rw (g w refl) (heard_lost after w h)
 
 -- the places that a part takes
 pub part_width : (m : Mode) → Lawful m → (n c w : ℕ) → c ≡ count m n → w ≡ m.map.w → c * w ≡ m.copies * total m n
@@ -158,14 +158,12 @@ length_front xs n k e l = rw sub-zero (length-take-le n xs (omega arith))
 -- what the copies of a part ask for
 pub record Heardable (s : ℕ) (hs : List AirBit) (n : ℕ) : Type 0 where
   pub copied : Copied s (length hs)
-  pub small : s ≤ 4
   pub few : length hs ≤ 33272
   pub room : length hs ≡ n
 
 pub heardable : (m : Mode) → Lawful m → (n s k : ℕ) (hs : List AirBit) → Carried n → s ≡ m.copies → k ≡ m.copies * total m n → length hs ≡ k → Heardable s hs k
 heardable m L n s k hs o e f g = record {
   copied = rw (e, g ∙ f) (copied_at m.copies (total m n) (several m L) (total_enough m L n o.low));
-  small = omega (arith, few_copies m L);
   few = omega (arith, air_few m L n o.high);
   room = g;
 }

@@ -1,6 +1,6 @@
 -- What a part holds: its bits, its faults, its words, and where they stand in the list.
 use Rattle.std.proofs.Common.{◌≡◌, ℕ, zero, suc, ◌+◌, ◌-◌, ◌*◌, ◌/◌, ◌<◌, ◌≤◌, ◌⊎◌, List, [], ◌∷◌, ◌++◌, length, get_or, take, drop, sym, refl, ap, ◌∙◌, inl, inr, mul-le-mul_left, arith}
-use native.Mathlib.Nat.{mul-div_cancel_left}
+use Rattle.std.proofs.Math.Nat.{mul-div_cancel_left}
 use Rattle.std.proofs.lemmas.Bool.{cases_eq, cases_lt}
 use Rattle.std.proofs.lemmas.List.{take_at, drop_at, length-take-le, length-drop, get_or-take, get_or-drop}
 use Rattle.std.proofs.ByRecursion.{All-get_or}

@@ -15,7 +15,7 @@ use Rattle.mode.specs.Shares.{words, unsents}
 use Rattle.mode.specs.Orders.{Movable, interleaved}
 use Rattle.mode.specs.Copying.{spread}
 use Rattle.mode.specs.Modes.{Mode, Lawful, coded, plain, pad, total, count, padded, air}
-use Rattle.mode.specs.Chains.{chained}
+use Rattle.mode.specs.Chains.{chained, copy_count}
 use Rattle.mode.proofs.Splits.{words_room}
 use Rattle.mode.proofs.Moves.{copied_at}
 use Rattle.mode.proofs.Coding.{put_two}
@@ -26,6 +26,17 @@ pub chain_lawful : (c : Code) (s : Copies) (f : Map) → codes.Lawful c → 16 �
 chain_lawful c One f l k r = record { code = l; roomy = k; copies = inl refl; map = r }
 chain_lawful c Two f l k r = record { code = l; roomy = k; copies = inr (inl refl); map = r }
 chain_lawful c Four f l k r = record { code = l; roomy = k; copies = inr (inr refl); map = r }
+
+-- the copies of a bit are one at least and four at most
+pub copies_some : (s : Copies) → 0 < copy_count s
+copies_some One = omega arith
+copies_some Two = omega arith
+copies_some Four = omega arith
+
+pub copies_four : (s : Copies) → copy_count s ≤ 4
+copies_four One = omega arith
+copies_four Two = omega arith
+copies_four Four = omega arith
 
 words_few : (k n : ℕ) → 16 ≤ k → n ≤ 2112 → words k n ≤ 132
 words_few k n l h = elim (cases_lt 132 (words k n)) [

@@ -1,5 +1,5 @@
 -- Strings of bits and their parts.
-use Rattle.std.proofs.Common.{◌≡◌, ℕ, ◌+◌, ◌-◌, ◌≤◌, ◌⊎◌, List, [], ◌∷◌, ◌++◌, length, take, drop, refl, inl, inr, arith}
+use Rattle.std.proofs.Common.{◌≡◌, ℕ, ◌+◌, ◌-◌, ◌*◌, ◌<◌, ◌≤◌, ◌⊎◌, List, [], ◌∷◌, ◌++◌, length, take, drop, refl, inl, inr, mul-le-mul_left, arith}
 use Rattle.std.specs.List.{AllByRecursion}
 use Rattle.std.proofs.lemmas.List.{length-take, length-take-le, length-drop, length-append}
 use Rattle.std.proofs.ByRecursion.{All-take, All-drop, All-append}
@@ -28,6 +28,10 @@ length_part a y xs l = simp (length-take, length-drop) (omega arith)
 pub part_bits : (a y m : ℕ) (xs : List ℕ) → a + y ≤ length xs → y ≡ m → AllByRecursion Bit xs → Bits m (take (a + y - a) (drop a xs))
 part_bits a y m xs l e b =
     bits_at y m _ e (record { size = length_part a y xs l; bits = All-take Bit (a + y - a) (drop a xs) (All-drop Bit a xs b) })
+
+-- row i of n rows of s places is there
+pub row_there : (s n i e : ℕ) → e ≡ s * n → i < n → s * i + s ≤ e
+row_there s n i e h l = omega (arith, mul-le-mul_left s l)
 
 -- two lists of numbers are equal or not
 pub cases_list : (xs ys : List ℕ) → (xs ≡ ys) ⊎ (xs ≡ ys → ⊥)

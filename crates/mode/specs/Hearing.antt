@@ -5,6 +5,7 @@ use Rattle.block_code.specs.Codes.{Code, word}
 use Rattle.mapping.specs.Maps.{Map}
 use Rattle.mode.specs.declared.fault.PartFault.{PartFault}
 use Rattle.mode.specs.declared.air_bit.AirBit.{AirBit}
+use Rattle.mode.specs.declared.decoder.LostWord.{LostWord}
 use Rattle.mode.specs.Shares.{words, unsent, unsents}
 use Rattle.mode.specs.Copying.{spoilt}
 use Rattle.mode.specs.Orders.{deinterleaved}
@@ -34,12 +35,12 @@ HearsWord c s es after None = FarWord c s es
 
 -- the bits that all words carry, and how many bits of the words are spoilt; or the lowest symbol with a copy of the
 -- first lost word
-abbrev pub HearsWords : Code → ℕ → List AirBit → ℕ → List ℕ → Result ℕ ℕ → Type 0
+abbrev pub HearsWords : Code → ℕ → List AirBit → ℕ → List ℕ → Result ℕ LostWord → Type 0
 HearsWords c s hs n after (Ok r) =
     Bits n after × Within c s (unsents c.k n) after (bits_of hs) × (spoilt_all c s (unsents c.k n) after (bits_of hs) ≡ r)
-HearsWords c s hs n after (Err r) =
+HearsWords c s hs n after (Err w) =
     (j : ℕ) × First (Lost c s (unsents c.k n) (bits_of hs)) (words c.k n) j
-    × Lowest (take (s * (c.k - unsent c.k n j + c.p)) (drop (s * sized c (take j (unsents c.k n))) hs)) r
+    × Lowest (take (s * (c.k - unsent c.k n j + c.p)) (drop (s * sized c (take j (unsents c.k n))) hs)) w.symbol
 
 -- the copies of the bits that so many symbols after index `at` carry, or what cannot be read
 abbrev pub HearsCopies : Map → ℕ → List ℕ → ℕ → ℕ → List AirBit → Result (Unit {0}) PartFault → Type 0

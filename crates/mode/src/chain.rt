@@ -72,7 +72,7 @@ impl<C: RoomyCode, M: Mapping> Chain<C, M> {
         // There is no heap: the buffer has room for the most coded bits.
         let mut coded = [0u8; MAX_CODED];
         self.write_coded(message, &mut coded[0..total]);
-        put_copies(self.copies.count(), &coded[0..total], air);
+        put_copies(self.copies, &coded[0..total], air);
     }
 
     // Hears the bits of a part, which has so many symbols after index `at` of the list, by way of their copies.
@@ -89,10 +89,9 @@ impl<C: RoomyCode, M: Mapping> Chain<C, M> {
         requires room { length heard.old ≡ count * M.Mapping.map.w }
         ensures { HearsPart (⟦<Self as Carrier>⟧.mode self.now) list.now at (length bits.old) bits.new result }
     {
-        let copies = self.copies.count();
-        hear_copies(&self.mapping, copies, list, at, count, heard)?;
-        hear_words(&self.code, copies, heard, bits).map_err(|symbol| PartFault::Word(
-            at + 1 + usize::from(symbol),
+        hear_copies(&self.mapping, self.copies, list, at, count, heard)?;
+        hear_words(&self.code, self.copies, heard, bits).map_err(|lost| PartFault::Word(
+            at + 1 + usize::from(lost.symbol),
         ))
     }
 }

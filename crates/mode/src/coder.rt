@@ -5,8 +5,10 @@ ghost use Rattle.block_code.specs.Codes.{shortened, word as word_of};
 ghost use Rattle.mode.specs.Shares.{words as words_of, unsents};
 ghost use Rattle.mode.specs.Orders.{interleaved};
 ghost use Rattle.mode.specs.Copying.{spread as spread_of};
+ghost use Rattle.mode.specs.Chains.{copy_count};
 ghost use Rattle.mode.specs.Modes.{Carried, coded, stepped};
 
+use crate::copies::Copies;
 use crate::interleaver::interleave;
 use crate::sharing::{share, word_count};
 use block_code::{BlockCode, Shortened};
@@ -56,30 +58,28 @@ pub(crate) fn put_words<C: BlockCode>(code: &C, bits: &[u8], output: &mut [u8])
 }
 
 // Writes each bit so many times in a row.
-fn spread(copies: usize, bits: &[u8], output: &mut [u8])
-    requires { length output.old ≡ copies * length bits.now }
-    ensures { output.new ≡ spread_of copies bits.now }
+fn spread(copies: Copies, bits: &[u8], output: &mut [u8])
+    requires { length output.old ≡ copy_count copies * length bits.now }
+    ensures { output.new ≡ spread_of (copy_count copies) bits.now }
 {
-    let mut at = 0;
-    for b in bits {
-        let end = at + copies;
-        output[at..end].fill(*b);
-        at = end;
+    let s = copies.count();
+    for (i, bit) in bits.iter().enumerate() {
+        let at = s * i;
+        output[at..at + s].fill(*bit);
     }
 }
 
 // Writes the copies of the coded bits in the order in which they go out.
-pub(crate) fn put_copies(copies: usize, coded: &[u8], air: &mut [u8])
-    requires several { 0 < copies }
+pub(crate) fn put_copies(copies: Copies, coded: &[u8], air: &mut [u8])
     requires enough { length coded.now ≢ 1 }
-    requires room { length air.old ≡ copies * length coded.now }
+    requires room { length air.old ≡ copy_count copies * length coded.now }
     requires few { length air.old ≤ 33272 }
-    ensures { air.new ≡ interleaved copies (length coded.now) (spread_of copies coded.now) }
+    ensures { air.new ≡ interleaved (copy_count copies) (length coded.now) (spread_of (copy_count copies) coded.now) }
 {
     let n = air.len();
     let mut copied = [0u8; MAX_AIR];
     spread(copies, coded, &mut copied[0..n]);
-    let Ok(_) = interleave(copies, &copied[0..n], air) else {
+    let Ok(_) = interleave(copies.count(), &copied[0..n], air) else {
         unreachable()
     };
 }
@@ -91,15 +91,13 @@ pub(crate) fn step_through<M: Mapping>(mapping: &M, prior: u8, bits: &[u8], outp
     ensures { output.new ≡ stepped M.Mapping.map (length output.old) prior bits.now }
 {
     let w = mapping.width();
-    let mut at = 0;
     let mut last = prior;
-    for i in 0..output.len() {
-        let end = at + w;
-        let Ok(next) = mapping.step(last, &bits[at..end]) else {
+    for (i, symbol) in output.iter_mut().enumerate() {
+        let at = w * i;
+        let Ok(next) = mapping.step(last, &bits[at..at + w]) else {
             unreachable()
         };
-        output[i] = next;
+        *symbol = next;
         last = next;
-        at = end;
     }
 }

@@ -6,6 +6,7 @@ ghost use Rattle.bits.specs.Strings.{Bit};
 ghost use Rattle.mode.specs.Copying.{differing as differing_of, majority, decided, spoilt as spoilt_of};
 ghost use Rattle.mode.specs.Heard.{labelled, bits_of, Lowest};
 ghost use Rattle.mode.specs.Shares.{unsents};
+ghost use Rattle.mode.specs.Chains.{copy_count};
 ghost use Rattle.mode.specs.Modes.{Carried};
 ghost use Rattle.mode.specs.Parts.{sized};
 ghost use Rattle.mode.specs.Hearing.{HearsCopies, HearsWord, HearsMessage, HearsWords};
@@ -14,6 +15,7 @@ ghost use Rattle.block_code.specs.Codes.{shortened};
 
 use crate::air_bit::AirBit;
 use crate::coder::MAX_AIR;
+use crate::copies::Copies;
 use crate::fault::PartFault;
 use crate::interleaver::deinterleave;
 use crate::sharing::{share, word_count};
@@ -38,19 +40,16 @@ fn read_part<M: Mapping>(
     if usize::from(prior) >= q {
         return Err(PartFault::Symbol(at));
     }
-    let mut from = 0;
-    for k in 0..count {
+    for (k, symbol) in list[at + 1..at + 1 + count].iter().enumerate() {
         let i = at + 1 + k;
-        let symbol = list[i];
-        if usize::from(symbol) >= q {
+        if usize::from(*symbol) >= q {
             return Err(PartFault::Symbol(i));
         }
-        let to = from + w;
-        let Ok(_) = mapping.read(prior, symbol, &mut bits[from..to]) else {
-            return Err(PartFault::Step(i));
-        };
-        prior = symbol;
-        from = to;
+        let from = w * k;
+        mapping
+            .read(prior, *symbol, &mut bits[from..from + w])
+            .map_err(|_| PartFault::Step(i))?;
+        prior = *symbol;
     }
     Ok(())
 }
@@ -62,8 +61,8 @@ fn label(w: usize, from: usize, bits: &[u8], output: &mut [AirBit])
     requires room { length output.old ≡ length bits.now }
     ensures { output.new ≡ labelled w from bits.now }
 {
-    for i in 0..bits.len() {
-        output[i] = AirBit {
+    for (i, place) in output.iter_mut().enumerate() {
+        *place = AirBit {
             bit: bits[i],
             symbol: ((from + i) / w) as u16,
         };
@@ -88,40 +87,38 @@ fn take_block(copies: usize, w: usize, from: usize, bits: &[u8], output: &mut [A
 }
 
 // Labels the bits of a part, and puts the copies of each bit in a row, block by block.
-fn take_copies(copies: usize, w: usize, bits: &[u8], output: &mut [AirBit])
-    requires copied { Copied copies (length bits.now) }
-    requires small { copies ≤ 4 }
+fn take_copies(copies: Copies, w: usize, bits: &[u8], output: &mut [AirBit])
+    requires copied { Copied (copy_count copies) (length bits.now) }
     requires some { 0 < w }
     requires few { length bits.now ≤ 65536 }
     requires room { length output.old ≡ length bits.now }
-    ensures { output.new ≡ deinterleaved copies (length bits.now / copies) (labelled w 0 bits.now) }
+    ensures { output.new ≡ deinterleaved (copy_count copies) (length bits.now / copy_count copies) (labelled w 0 bits.now) }
 {
-    let total = bits.len() / copies;
-    let lead = copies * (3 * (total % 2));
-    take_block(copies, w, 0, &bits[0..lead], &mut output[0..lead]);
-    let pair = 2 * copies;
-    for i in 0..total / 2 - total % 2 {
+    let s = copies.count();
+    let total = bits.len() / s;
+    let lead = s * (3 * (total % 2));
+    take_block(s, w, 0, &bits[0..lead], &mut output[0..lead]);
+    let pair = 2 * s;
+    for (i, block) in bits[lead..].chunks_exact(pair).enumerate() {
         let from = lead + pair * i;
-        let to = from + pair;
-        take_block(copies, w, from, &bits[from..to], &mut output[from..to]);
+        take_block(s, w, from, block, &mut output[from..from + pair]);
     }
 }
 
 // Reads so many symbols after index `at` of the list, and puts the copies of each bit in a row.
 pub(crate) fn hear_copies<M: Mapping>(
     mapping: &M,
-    copies: usize,
+    copies: Copies,
     list: &[u8],
     at: usize,
     count: usize,
     heard: &mut [AirBit],
 ) -> Result<(), PartFault>
     requires there { at + 1 + count ≤ length list.now }
-    requires copied { Copied copies (length heard.old) }
-    requires small { copies ≤ 4 }
+    requires copied { Copied (copy_count copies) (length heard.old) }
     requires few { length heard.old ≤ 33272 }
     requires room { length heard.old ≡ count * M.Mapping.map.w }
-    ensures { HearsCopies M.Mapping.map copies list.now at count heard.new result }
+    ensures { HearsCopies M.Mapping.map (copy_count copies) list.now at count heard.new result }
 {
     let n = heard.len();
     let mut air = [0u8; MAX_AIR];
@@ -134,13 +131,7 @@ pub(crate) fn hear_copies<M: Mapping>(
 fn differing(bit: u8, copies: &[AirBit]) -> usize
     ensures { result ≡ differing_of bit (bits_of copies.now) }
 {
-    let mut n = 0;
-    for c in copies {
-        if c.bit != bit {
-            n += 1;
-        }
-    }
-    n
+    copies.iter().filter(|c| c.bit != bit).count()
 }
 
 // The bit that most of the copies say. A tie goes to the first copy.
@@ -159,88 +150,84 @@ fn decide(copies: &[AirBit]) -> u8
 }
 
 // Decides the bits of a word.
-fn decide_word(copies: usize, heard: &[AirBit], word: &mut [u8])
-    requires several { 0 < copies }
+fn decide_word(copies: Copies, heard: &[AirBit], word: &mut [u8])
     requires bits { AllByRecursion Bit (bits_of heard.now) }
-    requires room { length heard.now ≡ copies * length word.old }
-    ensures { word.new ≡ decided copies (length word.old) (bits_of heard.now) }
+    requires room { length heard.now ≡ copy_count copies * length word.old }
+    ensures { word.new ≡ decided (copy_count copies) (length word.old) (bits_of heard.now) }
 {
-    let mut at = 0;
-    for i in 0..word.len() {
-        let end = at + copies;
-        word[i] = decide(&heard[at..end]);
-        at = end;
+    let s = copies.count();
+    for (i, bit) in word.iter_mut().enumerate() {
+        let at = s * i;
+        *bit = decide(&heard[at..at + s]);
     }
 }
 
 // How many bits of the word are spoilt: half or more of their copies differ from them.
-fn spoilt(copies: usize, word: &[u8], heard: &[AirBit]) -> usize
-    requires { length heard.now ≡ copies * length word.now }
-    ensures { result ≡ spoilt_of copies word.now (bits_of heard.now) }
+fn spoilt(copies: Copies, word: &[u8], heard: &[AirBit]) -> usize
+    requires { length heard.now ≡ copy_count copies * length word.now }
+    ensures { result ≡ spoilt_of (copy_count copies) word.now (bits_of heard.now) }
 {
+    let s = copies.count();
     let mut n = 0;
-    let mut at = 0;
-    for b in word {
-        let end = at + copies;
-        let against = differing(*b, &heard[at..end]);
-        if against >= copies - against {
+    for (i, bit) in word.iter().enumerate() {
+        let at = s * i;
+        let against = differing(*bit, &heard[at..at + s]);
+        if against >= s - against {
             n += 1;
         }
-        at = end;
     }
     n
 }
 
-// The lowest symbol that carried one of the bits.
-fn lowest(heard: &[AirBit]) -> u16
+// A word that is lost, told by the lowest symbol that carried one of its bits.
+#[derive(Clone, Copy)]
+pub(crate) struct LostWord {
+    pub(crate) symbol: u16,
+}
+
+// The word of which these bits were heard, as one that is lost.
+fn lost_word(heard: &[AirBit]) -> LostWord
     requires { 0 < length heard.now }
-    ensures { Lowest heard.now result }
+    ensures { Lowest heard.now result.symbol }
 {
-    let mut low = heard[0].symbol;
-    for h in heard {
-        if h.symbol < low {
-            low = h.symbol;
-        }
-    }
-    low
+    let symbol = heard
+        .iter()
+        .fold(heard[0].symbol, |low, h| low.min(h.symbol));
+    LostWord { symbol }
 }
 
 // Decides the bits of a word and corrects them, and counts which are spoilt. A word with more spoilt bits than the code
 // corrects is none.
 fn hear_word<C: BlockCode>(
     code: &C,
-    copies: usize,
+    copies: Copies,
     heard: &[AirBit],
     word: &mut [u8],
 ) -> Option<usize>
-    requires several { 0 < copies }
     requires bits { AllByRecursion Bit (bits_of heard.now) }
     requires size { length word.old ≡ (C.BlockCode.code code.now).k + (C.BlockCode.code code.now).p }
-    requires room { length heard.now ≡ copies * length word.old }
-    ensures { HearsWord (C.BlockCode.code code.now) copies (bits_of heard.now) word.new result }
+    requires room { length heard.now ≡ copy_count copies * length word.old }
+    ensures { HearsWord (C.BlockCode.code code.now) (copy_count copies) (bits_of heard.now) word.new result }
 {
     decide_word(copies, heard, word);
-    let Ok(_) = code.correct(word) else {
-        return None;
-    };
+    code.correct(word).ok()?;
     let n = spoilt(copies, word, heard);
-    if n > code.reach() { None } else { Some(n) }
+    (n <= code.reach()).then_some(n)
 }
 
 // Hears the message of a word in the code shortened by the unsent bits.
 fn hear_message<C: BlockCode>(
     code: &C,
     unsent: usize,
-    copies: usize,
+    copies: Copies,
     heard: &[AirBit],
     message: &mut [u8],
 ) -> Option<usize>
     requires short { unsent < (C.BlockCode.code code.now).k }
-    requires several { 0 < copies }
     requires bits { AllByRecursion Bit (bits_of heard.now) }
     requires size { length message.old ≡ (C.BlockCode.code code.now).k - unsent }
-    requires room { length heard.now ≡ copies * (length message.old + (C.BlockCode.code code.now).p) }
-    ensures { HearsMessage (shortened (C.BlockCode.code code.now) unsent) copies (bits_of heard.now) message.new result }
+    requires room { length heard.now ≡ copy_count copies * (length message.old + (C.BlockCode.code code.now).p) }
+    ensures { HearsMessage (shortened (C.BlockCode.code code.now) unsent) (copy_count copies) (bits_of heard.now) message.new result }
 {
     let m = message.len();
     let n = m + code.parity_bits();
@@ -248,29 +235,26 @@ fn hear_message<C: BlockCode>(
         unreachable()
     };
     let mut word = [0u8; 63];
-    let Some(count) = hear_word(&short, copies, heard, &mut word[0..n]) else {
-        return None;
-    };
+    let count = hear_word(&short, copies, heard, &mut word[0..n])?;
     message.copy_from_slice(&word[0..m]);
     Some(count)
 }
 
-// Hears the bits that all words carry, and counts which bits of the words are spoilt. If a word is lost, the answer is
-// the lowest symbol that carried one of its bits.
+// Hears the bits that all words carry, and counts which bits of the words are spoilt, or tells the first lost word.
 pub(crate) fn hear_words<C: BlockCode>(
     code: &C,
-    copies: usize,
+    copies: Copies,
     heard: &[AirBit],
     bits: &mut [u8],
-) -> Result<usize, u16>
+) -> Result<usize, LostWord>
     requires carried { Carried (length bits.old) }
-    requires several { 0 < copies }
     requires heard_bits { AllByRecursion Bit (bits_of heard.now) }
-    requires room { copies * sized (C.BlockCode.code code.now) (unsents (C.BlockCode.code code.now).k (length bits.old)) ≤ length heard.now }
-    ensures { HearsWords (C.BlockCode.code code.now) copies heard.now (length bits.old) bits.new result }
+    requires room { copy_count copies * sized (C.BlockCode.code code.now) (unsents (C.BlockCode.code code.now).k (length bits.old)) ≤ length heard.now }
+    ensures { HearsWords (C.BlockCode.code code.now) (copy_count copies) heard.now (length bits.old) bits.new result }
 {
     let k = code.message_bits();
     let p = code.parity_bits();
+    let s = copies.count();
     let n = bits.len();
     let mut total = 0;
     let mut from = 0;
@@ -280,11 +264,10 @@ pub(crate) fn hear_words<C: BlockCode>(
             unreachable()
         };
         let to = from + m;
-        let end = at + copies * (m + p);
-        let Some(count) = hear_message(code, unsent, copies, &heard[at..end], &mut bits[from..to])
-        else {
-            return Err(lowest(&heard[at..end]));
-        };
+        let end = at + s * (m + p);
+        let own = &heard[at..end];
+        let message = &mut bits[from..to];
+        let count = hear_message(code, unsent, copies, own, message).ok_or_else(|| lost_word(own))?;
         total += count;
         from = to;
         at = end;

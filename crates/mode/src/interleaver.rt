@@ -44,8 +44,8 @@ pub fn interleave<T: Copy>(copies: usize, input: &[T], output: &mut [T]) -> Resu
         return Err(BadCall);
     }
     let bits = input.len() / copies;
-    for i in 0..input.len() {
-        output[i] = input[source(copies, bits, i)];
+    for (i, place) in output.iter_mut().enumerate() {
+        *place = input[source(copies, bits, i)];
     }
     Ok(())
 }
@@ -60,8 +60,8 @@ pub fn deinterleave<T: Copy>(copies: usize, input: &[T], output: &mut [T]) -> Re
         return Err(BadCall);
     }
     let bits = input.len() / copies;
-    for i in 0..input.len() {
-        output[source(copies, bits, i)] = input[i];
+    for (i, x) in input.iter().enumerate() {
+        output[source(copies, bits, i)] = *x;
     }
     Ok(())
 }

@@ -32,7 +32,7 @@ pub fn share(word: usize, k: usize, n: usize) -> Result<(usize, usize), BadCall>
     ensures answer { Shares word k n result }
     ensures whole { AllShared }
 {
-    if k < 1 || k > 63 || n < 1 || n > 65535 {
+    if !(1..=63).contains(&k) || !(1..=65535).contains(&n) {
         return Err(BadCall);
     }
     let words = word_count(k, n);

@@ -1,5 +1,5 @@
 use Rattle.std.proofs.Common.{◌+◌, ◌≤◌, length, ◌∙◌, arith}
-use Rattle.mode.proofs.Strings.{length_part, part_bits}
+use Rattle.mode.proofs.Strings.{length_part}
 use Rattle.mode.proofs.Coding.{Turn, turn, coding_none, coding_more, coding_all}
 use Rattle.mode.proofs.coder.put_words.Given.{Over}
 use Rattle.mode.proofs.coder.put_words.Goals as goal
@@ -16,28 +16,14 @@ here g c =
 pub loop-i-init : goal.loop-i-init
 loop-i-init g c = coding_none (g.C.BlockCode.code c.args.code.now) c.args.bits.now c.args.output.now (g.met.C.BlockCode.lawful c.args.code.now).some c.requires.room
 
-pub overflow_add-to : goal.overflow_add-to
-overflow_add-to g c = omega (arith, (here g c).reads)
-
-pub overflow_add-end-in-loop-i : goal.overflow_add-end-in-loop-i
-overflow_add-end-in-loop-i g c = omega (arith, (here g c).fits, c.parity_bits-p.ensures)
-
 pub slice_bounds-put_word-end : goal.slice_bounds-put_word-end
 slice_bounds-put_word-end g c = omega (arith, (here g c).reads)
 
 pub slice_bounds-put_word-end-in-loop-i : goal.slice_bounds-put_word-end-in-loop-i
 slice_bounds-put_word-end-in-loop-i g c = omega (arith, (here g (goal.at.slice_bounds-put_word-end-in-loop-i g c).In-Ok).fits, c.parity_bits-p.ensures)
 
-pub put_word-requires : goal.put_word-requires
-put_word-requires g c =
-    let t = here g (goal.at.put_word-requires g c).In-Ok in
-    let p = c.parity_bits-p.ensures in
-    let w : c.loop-i.at + (c.in-Ok.m + c.parity_bits-p.result) ≤ length c.loop-i.output = omega (arith, t.fits) in
-    record {
-      short = t.below;
-      bits = part_bits c.loop-i.from c.in-Ok.m _ c.args.bits.now t.reads t.bits c.requires.bits.bits;
-      room = omega (arith, length_part c.loop-i.from c.in-Ok.m c.args.bits.now t.reads, length_part c.loop-i.at (c.in-Ok.m + c.parity_bits-p.result) c.loop-i.output w);
-    }
+pub put_word-requires-clause-short : goal.put_word-requires-clause-short
+put_word-requires-clause-short g c = (here g (goal.at.put_word-requires-clause-short g c).In-Ok).below
 
 pub loop-i-preserved : goal.loop-i-preserved
 loop-i-preserved g c =

@@ -2,5 +2,5 @@ use Rattle.std.proofs.Common.{◌≡◌, ◌*◌, take}
 use Rattle.mode.specs.Copying.{spread}
 use Rattle.mode.proofs.coder.spread.Given as goal
 
-abbrev pub invariant-loop-b : goal.invariant-loop-b
-invariant-loop-b l = (l.at ≡ l.copies * l.b-index) × (take l.at l.output ≡ spread l.copies (take l.b-index l.bits))
+abbrev pub invariant-loop-i : goal.invariant-loop-i
+invariant-loop-i l = take (l.s * l.i) l.output ≡ spread l.s (take l.i l.bits)

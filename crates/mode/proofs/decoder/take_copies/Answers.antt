@@ -1,46 +1,78 @@
-use Rattle.std.proofs.Common.{◌≡◌, ◌+◌, ◌-◌, ◌*◌, ◌/◌, ◌%◌, length, take, drop, sym, refl, ◌∙◌, arith}
-use Rattle.std.proofs.lemmas.List.{length-take}
+use Rattle.std.proofs.Common.{◌≡◌, ◌+◌, ◌-◌, ◌*◌, ◌/◌, ◌%◌, ◌≤◌, length, take, drop, sym, ap, ◌∙◌, arith}
+use Rattle.std.specs.Iterator.Adapters.{enumerate_source, enumerate_count}
+use Rattle.std.specs.Slice.Iter.{chunks_exact_rest, chunks_exact_size}
+use Rattle.mode.specs.Orders.{Copied, deinterleaved}
+use Rattle.mode.specs.Heard.{labelled}
+use Rattle.mode.proofs.Room.{copies_four}
 use Rattle.mode.proofs.Strings.{length_part}
 use Rattle.mode.proofs.Moves.{copied_size}
-use Rattle.mode.proofs.Blocks.{lead_there, pair_there, taken_first, taken_more, taken_all, blockable}
+use Rattle.mode.proofs.Blocks.{taken_begin, block_there, taken_next, taken_end, blockable}
 use Rattle.mode.proofs.decoder.take_copies.Goals as goal
+use Rattle.mode.proofs.decoder.take_copies.Goals.{After-count-s, In-Some}
 
-pub slice_bounds-take_block-end : goal.slice_bounds-take_block-end
-slice_bounds-take_block-end c = omega (arith, lead_there c.args.copies (length c.args.bits.now / c.args.copies) c.args.w c.args.bits.now c.requires.copied.several c.requires.copied.enough (sym (copied_size c.args.copies (length c.args.bits.now) c.requires.copied)))
+copied : (c : After-count-s) → Copied c.count-s.result (length c.args.bits.now)
+copied c = rw c.count-s.ensures c.requires.copied
 
-pub slice_bounds-take_block-end-2 : goal.slice_bounds-take_block-end-2
-slice_bounds-take_block-end-2 c = omega (arith, lead_there c.args.copies (length c.args.bits.now / c.args.copies) c.args.w c.args.bits.now c.requires.copied.several c.requires.copied.enough (sym (copied_size c.args.copies (length c.args.bits.now) c.requires.copied)), c.requires.room)
+long : (c : After-count-s) → length c.args.bits.now ≡ c.count-s.result * (length c.args.bits.now / c.count-s.result)
+long c = sym (copied_size c.count-s.result (length c.args.bits.now) (copied c))
 
-pub take_block-requires : goal.take_block-requires
-take_block-requires c =
-    let h = lead_there c.args.copies (length c.args.bits.now / c.args.copies) c.args.w c.args.bits.now c.requires.copied.several c.requires.copied.enough (sym (copied_size c.args.copies (length c.args.bits.now) c.requires.copied)) in
-    let k = blockable c.args.copies (3 * (length c.args.bits.now / c.args.copies % 2)) c.args.w 0 (take ((c.args.copies * (3 * (length c.args.bits.now / c.args.copies % 2))) - 0) c.args.bits.now) (take ((c.args.copies * (3 * (length c.args.bits.now / c.args.copies % 2))) - 0) c.args.output.now)
-    c.requires.copied.several c.requires.small (λ e. omega arith) (omega arith) c.requires.some (simp length-take (omega arith)) (simp length-take (omega (arith, c.requires.room))) (omega (arith, c.requires.few)) in
-    record { copied = k.copied; small = k.small; some = k.some; few = k.few; room = k.room }
+-- the next block is there
+fits : (c : In-Some) → c.count-s.result * (3 * (length c.args.bits.now / c.count-s.result % 2)) + 2 * c.count-s.result * c.in-Some.i + 2 * c.count-s.result ≤ length c.args.bits.now
+fits c =
+    let a = (goal.at.In-Some c).After-count-s in
+    let k = copied a in
+    let next = c.in-Some.ensures.steps in
+    let it = enumerate_source c.loop-i.i-iterator in
+    rw next.1 (block_there c.count-s.result (length c.args.bits.now / c.count-s.result) c.args.w c.args.bits.now k.several k.enough (long a) c.loop-i.output (enumerate_count c.loop-i.i-iterator) (chunks_exact_rest it) (chunks_exact_size it) c.loop-i.invariant c.in-Some.block.now _ next.0.1.0 next.0.1.1).1
 
 pub loop-i-init : goal.loop-i-init
 loop-i-init c =
-    let e : (c.args.copies * (3 * (length c.args.bits.now / c.args.copies % 2))) + 2 * c.args.copies * 0 ≡ (c.args.copies * (3 * (length c.args.bits.now / c.args.copies % 2))) = omega arith in
-    rw e (taken_first c.args.copies (length c.args.bits.now / c.args.copies) c.args.w c.args.bits.now c.requires.copied.several c.requires.copied.enough (sym (copied_size c.args.copies (length c.args.bits.now) c.requires.copied)) (drop ((c.args.copies * (3 * (length c.args.bits.now / c.args.copies % 2))) - 0) c.args.output.now) c.take_block.new.output c.take_block.ensures)
+    let a = (goal.at.loop-i-init c).After-count-s in
+    let k = copied a in
+    rw (c.into_iter-i-iterator.ensures.into_iter_gives, c.enumerate-i-items.ensures.count, c.enumerate-i-items.ensures.source, c.chunks_exact.ensures.size)
+    (taken_begin c.count-s.result (length c.args.bits.now / c.count-s.result) c.args.w c.args.bits.now k.several k.enough (long a) _ c.take_block.new.output _ c.take_block.ensures c.chunks_exact.ensures.rest)
+
+pub overflow_mul-from : goal.overflow_mul-from
+overflow_mul-from c = omega (arith, fits (goal.at.overflow_mul-from c).In-Some, c.requires.few)
+
+pub overflow_add-from : goal.overflow_add-from
+overflow_add-from c = omega (arith, fits (goal.at.overflow_add-from c).In-Some, c.requires.few)
+
+pub overflow_add-from-in-loop-i : goal.overflow_add-from-in-loop-i
+overflow_add-from-in-loop-i c = omega (arith, fits (goal.at.overflow_add-from-in-loop-i c).In-Some, c.requires.few)
+
+pub offset_bounds-output-from : goal.offset_bounds-output-from
+offset_bounds-output-from c = omega (arith, fits (goal.at.offset_bounds-output-from c).In-Some, c.requires.few)
 
 pub slice_bounds-take_block-end-in-loop-i : goal.slice_bounds-take_block-end-in-loop-i
-slice_bounds-take_block-end-in-loop-i c = omega (arith, pair_there c.args.copies (length c.args.bits.now / c.args.copies) c.args.w c.args.bits.now c.requires.copied.several c.requires.copied.enough (sym (copied_size c.args.copies (length c.args.bits.now) c.requires.copied)) c.loop-i.i c.loop-i-test.true)
-
-pub slice_bounds-take_block-end-in-loop-i-2 : goal.slice_bounds-take_block-end-in-loop-i-2
-slice_bounds-take_block-end-in-loop-i-2 c = omega (arith, pair_there c.args.copies (length c.args.bits.now / c.args.copies) c.args.w c.args.bits.now c.requires.copied.several c.requires.copied.enough (sym (copied_size c.args.copies (length c.args.bits.now) c.requires.copied)) c.loop-i.i c.loop-i-test.true, c.loop-i.auto.output, c.requires.room)
+slice_bounds-take_block-end-in-loop-i c = omega (arith, fits (goal.at.slice_bounds-take_block-end-in-loop-i c).In-Some, c.loop-i.auto.output, c.requires.room)
 
 pub take_block-requires-in-loop-i : goal.take_block-requires-in-loop-i
 take_block-requires-in-loop-i c =
-    let h = pair_there c.args.copies (length c.args.bits.now / c.args.copies) c.args.w c.args.bits.now c.requires.copied.several c.requires.copied.enough (sym (copied_size c.args.copies (length c.args.bits.now) c.requires.copied)) c.loop-i.i c.loop-i-test.true in
-    let k = blockable c.args.copies 2 c.args.w (c.args.copies * (3 * (length c.args.bits.now / c.args.copies % 2)) + 2 * c.args.copies * c.loop-i.i) (take ((c.args.copies * (3 * (length c.args.bits.now / c.args.copies % 2)) + 2 * c.args.copies * c.loop-i.i) + 2 * c.args.copies - (c.args.copies * (3 * (length c.args.bits.now / c.args.copies % 2)) + 2 * c.args.copies * c.loop-i.i)) (drop (c.args.copies * (3 * (length c.args.bits.now / c.args.copies % 2)) + 2 * c.args.copies * c.loop-i.i) c.args.bits.now)) (take ((c.args.copies * (3 * (length c.args.bits.now / c.args.copies % 2)) + 2 * c.args.copies * c.loop-i.i) + 2 * c.args.copies - (c.args.copies * (3 * (length c.args.bits.now / c.args.copies % 2)) + 2 * c.args.copies * c.loop-i.i)) (drop (c.args.copies * (3 * (length c.args.bits.now / c.args.copies % 2)) + 2 * c.args.copies * c.loop-i.i) c.loop-i.output))
-    c.requires.copied.several c.requires.small (λ e. omega arith) (omega arith) c.requires.some (length_part (c.args.copies * (3 * (length c.args.bits.now / c.args.copies % 2)) + 2 * c.args.copies * c.loop-i.i) (2 * c.args.copies) c.args.bits.now h ∙ omega arith)
-    (length_part (c.args.copies * (3 * (length c.args.bits.now / c.args.copies % 2)) + 2 * c.args.copies * c.loop-i.i) (2 * c.args.copies) c.loop-i.output (omega (arith, c.loop-i.auto.output, c.requires.room)) ∙ omega arith) (omega (arith, c.requires.few)) in
-    record { copied = k.copied; small = k.small; some = k.some; few = k.few; room = k.room }
+    let i = (goal.at.take_block-requires-in-loop-i c).In-Some in
+    let a = (goal.at.In-Some i).After-count-s in
+    let h = fits i in
+    let from = c.count-s.result * (3 * (length c.args.bits.now / c.count-s.result % 2)) + 2 * c.count-s.result * c.in-Some.i in
+    let part = take (from + 2 * c.count-s.result - from) (drop from c.loop-i.output) in
+    let b = blockable c.count-s.result 2 c.args.w from c.in-Some.block.now part
+    (copied a).several (rw c.count-s.ensures (copies_four c.args.copies)) (λ e. omega arith) (omega arith) c.requires.some (c.in-Some.ensures.steps.0.1.1 ∙ c.loop-i.invariant.pair ∙ omega arith)
+    (length_part from (2 * c.count-s.result) c.loop-i.output (omega (arith, c.loop-i.auto.output, c.requires.room)) ∙ omega arith) (omega (arith, c.requires.few)) in
+    record { copied = b.copied; small = b.small; some = b.some; few = b.few; room = b.room }
 
 pub loop-i-preserved : goal.loop-i-preserved
 loop-i-preserved c =
-    taken_more c.args.copies (length c.args.bits.now / c.args.copies) c.args.w c.args.bits.now c.requires.copied.several c.requires.copied.enough (sym (copied_size c.args.copies (length c.args.bits.now) c.requires.copied)) c.loop-i.output c.take_block-in-loop-i.new.output (c.args.copies * (3 * (length c.args.bits.now / c.args.copies % 2)) + 2 * c.args.copies * c.loop-i.i) (2 * c.args.copies) c.loop-i.i _ refl refl c.loop-i-test.true (omega arith) (omega (arith, c.loop-i.auto.output, c.requires.room)) c.loop-i.invariant c.take_block-in-loop-i.ensures
+    let a = (goal.at.loop-i-preserved c).After-count-s in
+    let k = copied a in
+    let next = c.in-Some.ensures.steps in
+    let it = enumerate_source c.loop-i.i-iterator in
+    rw (next.2, next.0.0) (taken_next c.count-s.result (length c.args.bits.now / c.count-s.result) c.args.w c.args.bits.now k.several k.enough (long a) c.loop-i.output (enumerate_count c.loop-i.i-iterator) (chunks_exact_rest it) (chunks_exact_size it) c.loop-i.invariant
+    c.take_block-in-loop-i.new.output c.in-Some.block.now _ c.in-Some.i next.0.1.0 next.0.1.1 (omega (arith, c.loop-i.auto.output, c.requires.room)) next.1 c.take_block-in-loop-i.ensures)
 
 pub returns : goal.returns
 returns c =
-    taken_all c.args.copies (length c.args.bits.now / c.args.copies) c.args.w c.args.bits.now c.requires.copied.several c.requires.copied.enough (sym (copied_size c.args.copies (length c.args.bits.now) c.requires.copied)) c.loop-i.output (c.args.copies * (3 * (length c.args.bits.now / c.args.copies % 2)) + 2 * c.args.copies * c.loop-i.i) (2 * c.args.copies) c.loop-i.i refl refl (omega (arith, c.loop-i-test.false, c.loop-i.auto.i-end)) (omega (arith, c.loop-i.auto.output, c.requires.room)) c.loop-i.invariant
+    let a = (goal.at.returns c).After-count-s in
+    let k = copied a in
+    let it = enumerate_source c.loop-i.i-iterator in
+    taken_end c.count-s.result (length c.args.bits.now / c.count-s.result) c.args.w c.args.bits.now k.several k.enough (long a) c.loop-i.output (enumerate_count c.loop-i.i-iterator) (chunks_exact_rest it) (chunks_exact_size it) c.loop-i.invariant
+    c.in-None.ensures.steps.0.1.0 (omega (arith, c.loop-i.auto.output, c.requires.room))
+    ∙ ap (λ s. deinterleaved s (length c.args.bits.now / s) (labelled c.args.w 0 c.args.bits.now)) c.count-s.ensures

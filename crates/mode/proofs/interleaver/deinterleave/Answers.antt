@@ -11,8 +11,8 @@ inside g c =
     let k = c.copied.ensures.0 c.if-not-copied.false in
     omega (arith, (copied_places c.args.copies (length c.args.input.now) k).below c.loop-i.i c.loop-i-test.true, c.source.ensures)
 
-pub returns-then-output-input : goal.returns-then-output-input
-returns-then-output-input g c = record { undoing = undoing; moves = search rules }
+pub returns-then-output-input-clause-undoing : goal.returns-then-output-input-clause-undoing
+returns-then-output-input-clause-undoing g c = undoing
 
 pub offset_bounds-output-source : goal.offset_bounds-output-source
 offset_bounds-output-source g c = let h = inside g c in search rules

@@ -8,7 +8,7 @@ use Rattle.mode.proofs.interleaver.interleave.Goals as goal
 inside : (g : Over) (c : goal.After-source g) → c.source.result < length c.args.input.now
 inside g c =
     let k = c.copied.ensures.0 c.if-not-copied.false in
-    omega (arith, (copied_places c.args.copies (length c.args.input.now) k).below c.loop-i.i c.loop-i-test.true, c.source.ensures)
+    omega (arith, (copied_places c.args.copies (length c.args.input.now) k).below c.loop-i.i (omega arith), c.source.ensures)
 
 pub offset_bounds-input-source : goal.offset_bounds-input-source
 offset_bounds-input-source g c = omega (arith, inside g c)
@@ -22,7 +22,7 @@ loop-i-preserved g c =
     let k = c.copied.ensures.0 c.if-not-copied.false in
     gather_more c.args.input.now c.loop-i.output (forth c.args.copies (n / c.args.copies)) c.loop-i.i c.index-input-source.result
     (omega arith)
-    ((copied_places c.args.copies n k).below c.loop-i.i c.loop-i-test.true)
+    ((copied_places c.args.copies n k).below c.loop-i.i (omega arith))
     (rw c.source.ensures at c.index-input-source.is)
     c.loop-i.invariant
 

@@ -1,53 +1,54 @@
-use Rattle.std.proofs.Common.{◌≡◌, length, refl, ◌∙◌, rules}
+use Rattle.std.proofs.Common.{rules, ◌≡◌, ◌*◌, length, refl, ◌∙◌, subst, arith}
 use Rattle.mode.specs.Orders.{deinterleaved}
 use Rattle.mode.specs.Heard.{labelled}
-use Rattle.mode.specs.Modes.{Mode, Lawful, total, count}
+use Rattle.mode.specs.Modes.{Lawful, total, count}
 use Rattle.mode.specs.Parts.{Read}
-use Rattle.mode.specs.Chains.{chained}
+use Rattle.mode.specs.Chains.{copy_count, chained}
 use Rattle.mode.proofs.Room.{chain_lawful}
 use Rattle.mode.proofs.Places.{part_width, heardable, heard_is, heard_bits, heard_room, heard_part}
 use Rattle.mode.proofs.chain.Chain.hear_part.Given.{Over}
 use Rattle.mode.proofs.chain.Chain.hear_part.Goals as goal
-use Rattle.mode.proofs.chain.Chain.hear_part.Goals.{After-count-copies, In_ok-hear_copies}
+use Rattle.mode.proofs.chain.Chain.hear_part.Goals.{Start, In_ok-hear_copies}
 
-abbrev mode : (g : Over) → After-count-copies g → Mode
-mode g c = chained (g.C.BlockCode.code c.args.self.now.code) c.args.self.now.copies g.M.Mapping.map
-
-lawful : (g : Over) (c : After-count-copies g) → Lawful (mode g c)
+lawful : (g : Over) (c : Start g) → Lawful (chained (g.C.BlockCode.code c.args.self.now.code) c.args.self.now.copies g.M.Mapping.map)
 lawful g c =
-    chain_lawful _ c.args.self.now.copies _ (g.met.C.BlockCode.lawful c.args.self.now.code) (g.met.C.RoomyCode.roomy c.args.self.now.code) g.met.M.Mapping.lawful
+    chain_lawful (g.C.BlockCode.code c.args.self.now.code) c.args.self.now.copies g.M.Mapping.map (g.met.C.BlockCode.lawful c.args.self.now.code) (g.met.C.RoomyCode.roomy c.args.self.now.code) g.met.M.Mapping.lawful
+
+wide : (g : Over) (c : Start g) → length c.args.heard.now ≡ (chained (g.C.BlockCode.code c.args.self.now.code) c.args.self.now.copies g.M.Mapping.map).copies * total (chained (g.C.BlockCode.code c.args.self.now.code) c.args.self.now.copies g.M.Mapping.map) (length c.args.bits.now)
+wide g c = c.requires.room ∙ part_width (chained (g.C.BlockCode.code c.args.self.now.code) c.args.self.now.copies g.M.Mapping.map) (lawful g c) (length c.args.bits.now) c.args.count g.M.Mapping.map.w c.requires.symbols refl
 
 pub hear_copies-requires : goal.hear_copies-requires
 hear_copies-requires g c =
-    let a = (goal.at.hear_copies-requires g c).After-count-copies in
-    let w = c.requires.room ∙ part_width (mode g a) (lawful g a) (length c.args.bits.now) c.args.count g.M.Mapping.map.w c.requires.symbols refl in
-    let h = heardable (mode g a) (lawful g a) (length c.args.bits.now) c.count-copies.result _ c.args.heard.now c.requires.there.carried c.count-copies.ensures refl w in
-    record { there = search rules; copied = h.copied; small = h.small; few = h.few; room = c.requires.room }
+    let a = (goal.at.hear_copies-requires g c).Start in
+    let h = heardable (chained (g.C.BlockCode.code c.args.self.now.code) c.args.self.now.copies g.M.Mapping.map) (lawful g a) (length c.args.bits.now) (copy_count c.args.self.now.copies) (length c.args.heard.now) c.args.heard.now c.requires.there.carried refl (wide g a) refl in
+    record { there = omega (arith, c.requires.there.long, c.requires.symbols); copied = h.copied; few = h.few; room = c.requires.room }
 
 -- the bits that were read
-read : (g : Over) (c : In_ok-hear_copies g) → Read g.M.Mapping.map c.args.list.now c.args.at (count (mode g (goal.at.In_ok-hear_copies g c).After-count-copies) (length c.args.bits.now)) c.in_ok-hear_copies.ensures.0
-read g c = rw c.requires.symbols at c.in_ok-hear_copies.ensures.1
+read : (g : Over) (c : In_ok-hear_copies g) → Read g.M.Mapping.map c.args.list.now c.args.at (count (chained (g.C.BlockCode.code c.args.self.now.code) c.args.self.now.copies g.M.Mapping.map) (length c.args.bits.now)) c.in_ok-hear_copies.ensures.0
+read g c = subst (λ j. Read g.M.Mapping.map c.args.list.now c.args.at j c.in_ok-hear_copies.ensures.0) c.requires.symbols c.in_ok-hear_copies.ensures.1
 
 -- and their copies
-heard : (g : Over) (c : In_ok-hear_copies g)
-    → let m = mode g (goal.at.In_ok-hear_copies g c).After-count-copies in c.hear_copies.new.heard ≡ deinterleaved m.copies (total m (length c.args.bits.now)) (labelled g.M.Mapping.map.w 0 c.in_ok-hear_copies.ensures.0)
+heard : (g : Over) (c : In_ok-hear_copies g) → c.hear_copies.new.heard ≡ deinterleaved (chained (g.C.BlockCode.code c.args.self.now.code) c.args.self.now.copies g.M.Mapping.map).copies (total (chained (g.C.BlockCode.code c.args.self.now.code) c.args.self.now.copies g.M.Mapping.map) (length c.args.bits.now)) (labelled g.M.Mapping.map.w 0 c.in_ok-hear_copies.ensures.0)
 heard g c =
-    let a = (goal.at.In_ok-hear_copies g c).After-count-copies in
-    heard_is _ (lawful g a) _ _ _ c.requires.there _ (read g c) _ _ c.count-copies.ensures c.in_ok-hear_copies.ensures.2
+    let a = (goal.at.In_ok-hear_copies g c).Start in
+    heard_is (chained (g.C.BlockCode.code c.args.self.now.code) c.args.self.now.copies g.M.Mapping.map) (lawful g a) c.args.list.now c.args.at (length c.args.bits.now) c.requires.there c.in_ok-hear_copies.ensures.0 (read g c) c.hear_copies.new.heard (copy_count c.args.self.now.copies) refl c.in_ok-hear_copies.ensures.2
 
 pub hear_words-requires : goal.hear_words-requires
 hear_words-requires g c =
-    let a = (goal.at.hear_words-requires g c).After-count-copies in
+    let m = chained (g.C.BlockCode.code c.args.self.now.code) c.args.self.now.copies g.M.Mapping.map in
+    let L = lawful g (goal.at.hear_words-requires g c).Start in
     let b = (goal.at.hear_words-requires g c).In_ok-hear_copies in
+    let n = length c.args.bits.now in
     record {
       carried = c.requires.there.carried;
-      several = search rules;
-      heard_bits = heard_bits _ (lawful g a) _ _ _ c.requires.there _ (read g b) _ (heard g b);
-      room = rw c.count-copies.ensures (heard_room _ (lawful g a) _ _ _ c.requires.there _ (read g b) _ (heard g b));
+      heard_bits = heard_bits m L c.args.list.now c.args.at n c.requires.there c.in_ok-hear_copies.ensures.0 (read g b) c.hear_copies.new.heard (heard g b);
+      room = heard_room m L c.args.list.now c.args.at n c.requires.there c.in_ok-hear_copies.ensures.0 (read g b) c.hear_copies.new.heard (heard g b);
     }
 
 pub returns : goal.returns
 returns g c =
-    let a = (goal.at.returns g c).After-count-copies in
+    let m = chained (g.C.BlockCode.code c.args.self.now.code) c.args.self.now.copies g.M.Mapping.map in
+    let L = lawful g (goal.at.returns g c).Start in
     let b = (goal.at.returns g c).In_ok-hear_copies in
-    heard_part _ (lawful g a) _ _ _ c.requires.there _ (read g b) _ (heard g b) _ _ _ (λ e y p. search rules) (rw c.count-copies.ensures at c.hear_words.ensures) c.map_err.ensures.cases
+    heard_part m L c.args.list.now c.args.at (length c.args.bits.now) c.requires.there c.in_ok-hear_copies.ensures.0 (read g b) c.hear_copies.new.heard (heard g b) c.hear_words.new.bits
+    c.hear_words.result c.map_err.result c.hear_words.ensures (λ n e. grind arith) (λ w e. search rules)

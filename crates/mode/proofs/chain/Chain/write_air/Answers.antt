@@ -35,5 +35,5 @@ pub returns : goal.returns
 returns g c =
     let m = mode g (goal.at.returns g c).After-coded_bits-total in
     let k = sized g (goal.at.returns g c).After-write_coded in
-    air_is m c.args.message.now.bits.now _ _ _ c.count-2.ensures (front_is _ _ _ k ∙ c.write_coded.ensures)
+    air_is m c.args.message.now.bits.now _ _ _ refl (front_is _ _ _ k ∙ c.write_coded.ensures)
     (front_length _ _ _ k ∙ c.coded_bits-total.ensures ∙ ap (total m) c.count.ensures) c.put_copies.ensures
