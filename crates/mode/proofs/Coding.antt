@@ -109,35 +109,32 @@ spread_all s bs os i l m r h =
     sym (take_all (s * i) os (omega arith)) ∙ h ∙ ap (spread s) (take_all i bs l)
 
 -- where the loop has written i symbols, the last of which is p: what is written, and what is left to step through
-pub record Going (f : Map) (q : ℕ) (os bs : List ℕ) (i p : ℕ) : Type 0 where
-  pub put : take i os ++ stepped f (length os - i) p (drop (f.w * i) bs) ≡ stepped f (length os) q bs
+pub record Going (f : Map) (q : ℕ) (os bs : List ℕ) (i p a : ℕ) : Type 0 where
+  pub put : take i os ++ stepped f (length os - i) p (drop a bs) ≡ stepped f (length os) q bs
+  pub at : a ≡ i * f.w
   pub known : p < f.q
 
-pub going_none : (f : Map) (q : ℕ) (os bs : List ℕ) → q < f.q → Going f q os bs 0 q
-going_none f q os bs l =
-    let z : f.w * 0 ≡ 0 = omega arith in
-    record { put = rw z (ap (λ j. stepped f j q bs) (omega arith)); known = l }
+pub going_none : (f : Map) (q : ℕ) (os bs : List ℕ) → q < f.q → Going f q os bs 0 q 0
+going_none f q os bs l = record { put = ap (λ j. stepped f j q bs) (omega arith); at = omega arith; known = l }
 
-module _ (f : Map) (L : maps.Lawful f) (q : ℕ) (os bs : List ℕ) (i p : ℕ) (h : Going f q os bs i p) (b : Bits (length os * f.w) bs) (l : i < length os) where
-  pub going_bits : (v : ℕ) → v ≡ f.w → Bits f.w (take (v * i + v - v * i) (drop (v * i) bs))
-  going_bits v e = rw e (part_bits (f.w * i) f.w f.w bs (row_there f.w (length os) i (length bs) (b.size ∙ omega arith) l) refl b.bits)
+module _ (f : Map) (L : maps.Lawful f) (q : ℕ) (os bs : List ℕ) (i p a : ℕ) (h : Going f q os bs i p a) (b : Bits (length os * f.w) bs) where
+  pub going_bits : (v : ℕ) → i < length os → v ≡ f.w → Bits f.w (take (a + v - a) (drop a bs))
+  going_bits v l e = part_bits a v f.w bs (omega (arith, row_there f.w (length os) i (length bs) (b.size ∙ omega arith) l, h.at)) e b.bits
 
-  pub going_more : (v r : ℕ) → v ≡ f.w → r ≡ f.next p (take (v * i + v - v * i) (drop (v * i) bs)) → Going f q (set os i r) bs (i + 1) r
-  going_more v r e o =
-      let a = f.w * i in
-      let x : r ≡ f.next p (take (a + f.w - a) (drop a bs)) = rw e at o in
-      let m : a + f.w - a ≡ f.w = omega arith in
-      let s : f.w * (i + 1) ≡ a + f.w = omega arith in
+  pub going_more : (v r : ℕ) → i < length os → v ≡ f.w → r ≡ f.next p (take (a + v - a) (drop a bs)) → Going f q (set os i r) bs (i + 1) r (a + v)
+  going_more v r l e x =
+      let m : a + v - a ≡ f.w = omega arith in
       let y : r ≡ f.next p (take f.w (drop a bs)) = x ∙ ap (λ n. f.next p (take n (drop a bs))) m in
       let n : length os - i ≡ suc (length os - (i + 1)) = omega arith in
       let z : take (i + 1) (set os i r) ++ stepped f (length (set os i r) - (i + 1)) r (drop (a + f.w) bs) ≡ take i os ++ stepped f (length os - i) p (drop a bs) =
       rw (take_more_set os i r l, length-set, n, drop-drop, ← y) (append_assoc (take i os) (r ∷ []) (stepped f (length os - (i + 1)) r (drop (a + f.w) bs))) in
       record {
-        put = rw s (z ∙ h.put ∙ ap (λ j. stepped f j q bs) (sym (length-set os i r)));
-        known = rw x (L.below p (take (a + f.w - a) (drop a bs)) h.known (going_bits f.w refl));
+        put = rw e (z ∙ h.put ∙ ap (λ j. stepped f j q bs) (sym (length-set os i r)));
+        at = omega (arith, h.at);
+        known = rw x (L.below p (take (a + v - a) (drop a bs)) h.known (going_bits v l e));
       }
 
-pub going_all : (f : Map) (q : ℕ) (os bs : List ℕ) (n i p : ℕ) → length os ≡ n → n ≤ i → Going f q os bs i p → os ≡ stepped f n q bs
-going_all f q os bs n i p e l h =
+pub going_all : (f : Map) (q : ℕ) (os bs : List ℕ) (n i p a : ℕ) → length os ≡ n → n ≤ i → Going f q os bs i p a → os ≡ stepped f n q bs
+going_all f q os bs n i p a e l h =
     let z : length os - i ≡ 0 = omega arith in
-    sym (append-nil os) ∙ ap (λ ys. ys ++ []) (sym (take_all i os (omega arith))) ∙ ap (λ j. take i os ++ stepped f j p (drop (f.w * i) bs)) (sym z) ∙ h.put ∙ ap (λ j. stepped f j q bs) e
+    sym (append-nil os) ∙ ap (λ ys. ys ++ []) (sym (take_all i os (omega arith))) ∙ ap (λ j. take i os ++ stepped f j p (drop a bs)) (sym z) ∙ h.put ∙ ap (λ j. stepped f j q bs) e

@@ -1,10 +1,13 @@
-use Rattle.std.proofs.Common.{◌*◌, length, sym, ap, arith}
+use Rattle.std.proofs.Common.{◌≡◌, ◌+◌, ◌*◌, length, sym, ap, ◌∙◌, arith}
 use Rattle.bits.specs.Strings.{Bits}
-use Rattle.mode.proofs.Coding.{going_more}
-use Rattle.mode.proofs.Strings.{bits_at}
+use Rattle.mode.proofs.Coding.{going_none, going_bits, going_more, going_all}
+use Rattle.mode.proofs.Strings.{bits_at, row_there}
 use Rattle.mode.proofs.coder.step_through.Given.{Over}
 use Rattle.mode.proofs.coder.step_through.Goals as goal
 use Rattle.mode.proofs.coder.step_through.Goals.{In-loop-i}
+
+pub loop-i-init : goal.loop-i-init
+loop-i-init g c = let z : c.width-w.result * 0 ≡ 0 = omega arith in rw z (going_none g.M.Mapping.map c.args.prior c.args.output.now c.args.bits.now c.requires.known)
 
 -- the symbols are so many, and the bits are theirs
 sized : (g : Over) (c : In-loop-i g) → Bits (length c.loop-i.output * g.M.Mapping.map.w) c.args.bits.now
@@ -12,5 +15,7 @@ sized g c = bits_at _ _ c.args.bits.now (ap (λ n. n * g.M.Mapping.map.w) (sym c
 
 pub loop-i-preserved : goal.loop-i-preserved
 loop-i-preserved g c =
-    going_more g.M.Mapping.map g.met.M.Mapping.lawful c.args.prior c.loop-i.output c.args.bits.now c.loop-i.i c.loop-i.last c.loop-i.invariant
-    (sized g (goal.at.loop-i-preserved g c).In-loop-i) (omega arith) c.width-w.result c.in-Ok.next c.width-w.ensures c.in-Ok.ensures.2
+    let w = c.width-w.result in
+    let e : w * (c.loop-i.i + 1) ≡ w * c.loop-i.i + w = omega arith in
+    rw e (going_more g.M.Mapping.map g.met.M.Mapping.lawful c.args.prior c.loop-i.output c.args.bits.now c.loop-i.i c.loop-i.last (w * c.loop-i.i) c.loop-i.invariant
+    (sized g (goal.at.loop-i-preserved g c).In-loop-i) w c.in-Ok.next (omega arith) c.width-w.ensures c.in-Ok.ensures.2)
