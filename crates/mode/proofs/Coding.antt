@@ -103,11 +103,6 @@ spread_more s bs os ys i l r h k f =
     ap (λ j. take j (put_mid a (a + s - a) os ys)) e ∙ take-put_mid a (a + s - a) os ys (a + s) (omega arith) (omega arith) ∙ ap (λ zs. zs ++ ys) h ∙ ap (λ zs. spread s (take i bs) ++ zs) g
     ∙ sym (spread-append s (take i bs) (get_or bs i 0 ∷ [])) ∙ ap (spread s) (sym (take_more bs i 0 l))
 
-pub spread_all : (s : ℕ) (bs os : List ℕ) (i : ℕ) → length bs ≤ i → i ≤ length bs → length os ≡ s * length bs → take (s * i) os ≡ spread s (take i bs) → os ≡ spread s bs
-spread_all s bs os i l m r h =
-    let f : s * i ≡ s * length bs = ap (λ x. s * x) (omega arith) in
-    sym (take_all (s * i) os (omega arith)) ∙ h ∙ ap (spread s) (take_all i bs l)
-
 -- where the loop has written i symbols, the last of which is p: what is written, and what is left to step through
 pub record Going (f : Map) (q : ℕ) (os bs : List ℕ) (i p a : ℕ) : Type 0 where
   pub put : take i os ++ stepped f (length os - i) p (drop a bs) ≡ stepped f (length os) q bs

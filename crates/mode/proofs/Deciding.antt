@@ -1,12 +1,10 @@
 -- Deciding bits from their copies, counting those that are spoilt, and the lowest symbol, one element after the other.
 use Rattle.std.proofs.Common.{◌≡◌, ℕ, zero, suc, ◌+◌, ◌-◌, ◌*◌, ◌<◌, ◌≤◌, ◌⊎◌, min, cond, eqb, fold, List, [], ◌∷◌, ◌++◌, length, get_or, take, drop, set, sym, refl, ap, ◌∙◌, inl, inr, arith}
-use Rattle.std.specs.List.{AllByRecursion, count_by}
+use Rattle.std.specs.List.{count_by}
 use Rattle.std.proofs.Math.Bool.{not}
 use Rattle.std.proofs.lemmas.List.Recursion.{is_count_by}
-use Rattle.std.proofs.lemmas.List.{at_drop_more, at_drop_all, drop-drop, length-take, length-map, take-map, drop-map, append-nil, append_assoc, take_all, take_more_set, length-set}
-use Rattle.std.proofs.ByRecursion.{All-get_or}
-use Rattle.std.proofs.lemmas.Bool.{eq-eqb, ne_eqb, le-leb, lt-leb, lt-ltb, le-ltb, cases_eq, cases_lt}
-use Rattle.bits.specs.Strings.{Bit}
+use Rattle.std.proofs.lemmas.List.{at_drop_more, drop-drop, length-map, take-map, drop-map, append_assoc, take_more_set, length-set}
+use Rattle.std.proofs.lemmas.Bool.{eq-eqb, ne_eqb, le-leb, lt-leb, cases_eq, cases_lt}
 use Rattle.mode.specs.declared.air_bit.AirBit.{AirBit}
 use Rattle.mode.specs.Copying.{differing, majority, decided, spoilt}
 use Rattle.mode.specs.Heard.{bits_of, symbols_of, Lowest}
@@ -49,23 +47,9 @@ module _ (hs : List AirBit) (r : ℕ) (e : r ≡ differing (get_or hs 0 none).bi
   pub against_le : r ≤ length hs
   against_le = omega (arith, counted, differing-le (get_or (bits_of hs) 0 0) (bits_of hs), length_bits hs)
 
-  pub first_bit : 0 < length hs → AllByRecursion Bit (bits_of hs) → (get_or hs 0 none).bit ≤ 1
-  first_bit p h = omega (arith, bit_is hs 0, All-get_or Bit (bits_of hs) 0 0 (omega (arith, length_bits hs)) h)
-
-  pub majority_other : length hs - r < r → 1 - (get_or hs 0 none).bit ≡ majority (bits_of hs)
-  majority_other l =
-      rw (lt-ltb (length (bits_of hs)) (2 * differing (get_or (bits_of hs) 0 0) (bits_of hs)) (omega (arith, counted, length_bits hs))) (ap (λ b. 1 - b) (bit_is hs 0))
-
-  pub majority_first : r ≤ length hs - r → (get_or hs 0 none).bit ≡ majority (bits_of hs)
-  majority_first l =
-      rw (le-ltb (length (bits_of hs)) (2 * differing (get_or (bits_of hs) 0 0) (bits_of hs)) (omega (arith, counted, length_bits hs, against_le))) (bit_is hs 0)
-
 -- i bits are decided
 abbrev pub Decided : ℕ → List ℕ → List ℕ → ℕ → Type 0
 Decided s es ws i = take i ws ++ decided s (length ws - i) (drop (s * i) es) ≡ decided s (length ws) es
-
-pub decided_none : (s : ℕ) (es ws : List ℕ) → Decided s es ws 0
-decided_none s es ws = let z : s * 0 ≡ 0 = omega arith in rw z (ap (λ j. decided s j es) (omega arith))
 
 pub decided_more : (s : ℕ) (es ws : List ℕ) (i r : ℕ) → Decided s es ws i → i < length ws → r ≡ majority (take s (drop (s * i) es)) → Decided s es (set ws i r) (i + 1)
 decided_more s es ws i r h l e =
@@ -75,11 +59,6 @@ decided_more s es ws i r h l e =
     rw (take_more_set ws i r l, n, drop-drop, ← e) (append_assoc (take i ws) (r ∷ []) (decided s (length ws - (i + 1)) (drop (s * i + s) es))) in
     rw (length-set, a) (z ∙ h)
 
-pub decided_all : (s : ℕ) (es ws : List ℕ) (n i : ℕ) → length ws ≡ n → n ≤ i → Decided s es ws i → ws ≡ decided s n es
-decided_all s es ws n i e l h =
-    let z : length ws - i ≡ 0 = omega arith in
-    sym (append-nil ws) ∙ ap (λ us. us ++ []) (sym (take_all i ws (omega arith))) ∙ ap (λ j. take i ws ++ decided s j (drop (s * i) es)) (sym z) ∙ h ∙ ap (λ j. decided s j es) e
-
 pub spoilt_yes : (s : ℕ) (ws es : List ℕ) (i a : ℕ) → i < length ws → s ≤ 2 * differing (get_or ws i 0) (take s (drop a es))
     → spoilt s (drop i ws) (drop a es) ≡ 1 + spoilt s (drop (i + 1) ws) (drop (a + s) es)
 spoilt_yes s ws es i a l h = at_drop_more (λ us. spoilt s us (drop a es)) ws i 0 l ∙ rw (le-leb s (2 * differing (get_or ws i 0) (take s (drop a es))) h, drop-drop)
@@ -88,15 +67,9 @@ pub spoilt_no : (s : ℕ) (ws es : List ℕ) (i a : ℕ) → i < length ws → 2
     → spoilt s (drop i ws) (drop a es) ≡ spoilt s (drop (i + 1) ws) (drop (a + s) es)
 spoilt_no s ws es i a l h = at_drop_more (λ us. spoilt s us (drop a es)) ws i 0 l ∙ rw (lt-leb s (2 * differing (get_or ws i 0) (take s (drop a es))) h, drop-drop) (omega arith)
 
-pub spoilt_end : (s : ℕ) (ws es : List ℕ) (i : ℕ) → length ws ≤ i → spoilt s (drop i ws) es ≡ 0
-spoilt_end s ws es i l = at_drop_all (λ us. spoilt s us es) ws i l
-
 -- what the code counts in the copies of a bit
 pub against_is : (b a s r : ℕ) (hs : List AirBit) → r ≡ differing b (bits_of (take (a + s - a) (drop a hs))) → r ≡ differing b (take s (drop a (bits_of hs)))
 against_is b a s r hs e = e ∙ ap (differing b) (bits_part hs a s)
-
-pub against_few : (b a s r : ℕ) (hs : List AirBit) → r ≡ differing b (take s (drop a (bits_of hs))) → r ≤ s
-against_few b a s r hs e = omega (arith, differing-le b (take s (drop a (bits_of hs))), length-take s (drop a (bits_of hs)))
 
 -- the lowest symbol, as the code folds it
 abbrev pub lower : ℕ → AirBit → ℕ

@@ -1,7 +1,7 @@
 -- A word is found exactly when some word has at most t spoilt bits; and the words of a part, one after the other.
-use Rattle.std.proofs.Common.{◌≡◌, ℕ, zero, suc, ◌+◌, ◌-◌, ◌*◌, ◌<◌, ◌≤◌, List, [], ◌∷◌, ◌++◌, length, get_or, take, drop, Err, sym, refl, ap, ◌∙◌, inl, inr, mul-le-mul_left, arith, leb, Some, None, Ok, Result}
+use Rattle.std.proofs.Common.{◌≡◌, ℕ, zero, suc, ◌+◌, ◌-◌, ◌*◌, ◌<◌, ◌≤◌, List, [], ◌∷◌, ◌++◌, length, get_or, take, drop, leb, Some, None, Ok, Err, Result, sym, refl, ap, ◌∙◌, inl, inr, mul-le-mul_left, arith}
 use Rattle.std.specs.List.{AllByRecursion}
-use Rattle.std.proofs.lemmas.List.{length-take-le, length-drop, length-append, append_assoc, drop-drop, drop_all, take_all, take_more, take-append-drop, take-append-le, drop-append-le, nil_from_length}
+use Rattle.std.proofs.lemmas.List.{length-take-le, length-drop, drop-drop, drop_all, take_all, take_more, take-append-drop, take-append-le, drop-append-le, nil_from_length}
 use Rattle.std.proofs.ByRecursion.{All-append}
 use Rattle.std.specs.Bool.{then_some}
 use Rattle.std.specs.Result.{result_ok}
@@ -24,7 +24,6 @@ use Rattle.mode.proofs.Strings.{bits_at}
 use Rattle.mode.proofs.Spoils.{decided_bits, decided_near, word_bits, spoilt-front, spoilt-le}
 use Rattle.mode.proofs.Splits.{carried, words_room, carried-unsents, length-unsents, get_or-unsents, unsent_below, unsents_more}
 use Rattle.mode.proofs.Readings.{within_found}
-use Rattle.mode.proofs.Room.{front_is}
 
 module _ (c : Code) (L : codes.Lawful c) (s : ℕ) (es : List ℕ) (p : 0 < s) (bits : AllByRecursion Bit es) (n : ℕ) (size : n ≡ c.k + c.p) (room : length es ≡ s * n) (before : List ℕ) (be : before ≡ decided s n es) where
   word-decided : Bits (c.k + c.p) (decided s n es)
@@ -71,17 +70,6 @@ refused (Err e) h = (e, refl)
 pub answered : {T E : Type 0} (r : Result T E) (x : T) → Some x ≡ result_ok r → r ≡ Ok x
 answered (Ok y) x h = cc
 answered (Err e) x h = absurd (let z : ◌≡◌ {A = ℕ} 0 1 = cc in omega arith)
-
--- the message at the front of a word
-module _ (c : Code) (s : ℕ) (es x ws : List ℕ) (n : ℕ) (h : NearWord c s es x n) (e : ws ≡ word c x) where
-  pub message_there : (m : ℕ) → m ≡ c.k → m ≤ length ws
-  message_there m k = omega (arith, ap length e, length-append x (c.parity x), h.valid.size)
-
-  pub message_near : (rest ms : List ℕ) (m : ℕ) → m ≡ c.k → ms ≡ take (m - 0) (ws ++ rest) → NearWord c s es ms n
-  message_near rest ms m k f =
-      let g : ws ++ rest ≡ x ++ (c.parity x ++ rest) = ap (λ us. us ++ rest) e ∙ append_assoc x (c.parity x) rest in
-      let q : ms ≡ x = f ∙ ap (take (m - 0)) g ∙ front_is x (c.parity x ++ rest) m (h.valid.size ∙ sym k) in
-      rw q h
 
 module _ (c : Code) (s : ℕ) where
   carried_push : (us : List ℕ) (u : ℕ) → carried c.k (us ++ u ∷ []) ≡ carried c.k us + (c.k - u)

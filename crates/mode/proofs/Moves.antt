@@ -1,11 +1,11 @@
 -- Loops that move each element of a list to its place in another: the step, and what stands at the end.
-use Rattle.std.proofs.Common.{◌≡◌, ℕ, zero, suc, ◌+◌, ◌-◌, ◌*◌, ◌/◌, ◌%◌, ◌^◌, ◌<◌, ◌≤◌, ◌≢◌, List, length, get_or, set, sym, ap, ◌∙◌, inl, inr, mul-le-mul_left, arith}
+use Rattle.std.proofs.Common.{◌≡◌, ℕ, ◌+◌, ◌-◌, ◌*◌, ◌/◌, ◌%◌, ◌^◌, ◌<◌, ◌≤◌, ◌≢◌, List, length, get_or, set, sym, ap, ◌∙◌, inl, inr, arith}
 use Rattle.std.proofs.Math.Nat.{mul-mod_right, mul-div_cancel_left}
 use Rattle.std.proofs.lemmas.List.{same_lists, get_or_read, get_or-set_same, get_or-set_other}
 use Rattle.std.proofs.lemmas.Nat.{div-add-mod'}
 use Rattle.std.proofs.lemmas.Bool.{cases_eq}
 use Rattle.mode.specs.Orders.{Inside, turned, lead, forth, back, permuted, Copied}
-use Rattle.mode.proofs.Turns.{Undoes, forth_below, forth_low, forth_high, lead_is, cases_two as cases-mod2, forth_undoes, back_undoes, length-permuted, get_or-permuted}
+use Rattle.mode.proofs.Turns.{Undoes, forth_below, forth_low, forth_high, lead_is, forth_undoes, back_undoes, length-permuted, get_or-permuted}
 
 module _ {X : Type 0} (xs ys : List X) (f : ℕ → ℕ) where
   -- place i of ys is taken from place f i of xs
@@ -62,28 +62,6 @@ copied_back s n c = rw (copied_size s n c) at (back_undoes s (n / s) c.several c
 
 -- what the code of `source` goes by, with the first block's size as the code has it
 module _ (s t i : ℕ) (c : Inside s t i) where
-  lead_fits : s * (3 * (t % 2)) ≤ s * t
-  lead_fits = let n = c.enough in mul-le-mul_left s (omega arith)
-
-  pub lead_below : s * (3 * (t % 2)) < 2 ^ 64
-  lead_below = omega (arith, lead_fits, c.fits)
-
-  some_bits : 2 ≤ t
-  some_bits = go t c.enough c.below
-    where
-      go : (t : ℕ) → (t ≡ 1 → ⊥) → i < s * t → 2 ≤ t
-      go zero n h = omega arith
-      go (suc t) n h = omega arith
-
-  pub pair_below : 2 * s < 2 ^ 64
-  pair_below = omega (arith, mul-le-mul_left s some_bits, c.fits)
-
-  pub in_lead : i < s * (3 * (t % 2)) → (i < 3 * s) × (3 * s < 2 ^ 64)
-  in_lead h = elim (cases-mod2 t) [
-    | inl e ↦ let f : s * (3 * (t % 2)) ≡ 3 * s = rw e (omega arith) in (omega arith, omega (arith, lead_below))
-    | inr e ↦ let f : s * (3 * (t % 2)) ≡ 0 = rw e (omega arith) in absurd (omega arith)
-  ]
-
   pub at_low : i < s * (3 * (t % 2)) → turned 3 s i ≡ forth s t i
   at_low h = sym (forth_low s t i (omega (arith, lead_is s t)))
 

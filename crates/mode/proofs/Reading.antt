@@ -43,32 +43,12 @@ pub record Sofar (f : Map) (list : List ℕ) (at many : ℕ) (bs : List ℕ) (k 
   pub leads : (es : List ℕ) → stepped f many (get_or list at 0) (take (f.w * k) bs ++ es) ≡ take k (take many (drop (at + 1) list)) ++ stepped f (many - k) p es
 
 module _ (f : Map) (list : List ℕ) (at many : ℕ) where
-  pub prior_fault : f.q ≤ get_or list at 0 → First (Amiss f list at) (at + 1 + many) at × Strange f list at
-  prior_fault s = (record { below = omega arith; has = (omega arith, inl s); least = λ j l a. omega (arith, a.0) }, s)
-
-  none : f.w * 0 ≡ 0
-  none = omega arith
-
-  pub sofar_none : (bs : List ℕ) → get_or list at 0 < f.q → Sofar f list at many bs 0 (get_or list at 0)
-  sofar_none bs l = record {
-    prior = ap (λ j. get_or list j 0) (omega arith);
-    fine = λ j b a.
-        let e : j ≡ at = omega (arith, a.0) in
-        elim a.1 [ inl s ↦ omega (arith, ap (λ i. get_or list i 0) e) | inr u ↦ omega (arith, u.0) ];
-    known = λ j b c. let e : j ≡ at = omega arith in rw e l;
-    bits = rw none tt;
-    leads = λ es. rw none (ap (λ j. stepped f j (get_or list at 0) es) (omega arith));
-  }
-
   module _ (L : maps.Lawful f) (bs : List ℕ) (k p : ℕ) (h : Sofar f list at many bs k p) where
     pub sofar_prior : p < f.q
     sofar_prior = rw h.prior (h.known (at + k) (omega arith) (omega arith))
 
     first_amiss : k < many → Amiss f list at (at + 1 + k) → First (Amiss f list at) (at + 1 + many) (at + 1 + k)
     first_amiss l x = record { below = omega arith; has = x; least = h.fine }
-
-    pub symbol_fault : (i : ℕ) → i ≡ at + 1 + k → k < many → f.q ≤ get_or list i 0 → First (Amiss f list at) (at + 1 + many) i × Strange f list i
-    symbol_fault i e l s = rw e (first_amiss l (omega arith, inl (rw e at s)), rw e at s)
 
     pub step_fault : (i : ℕ) → i ≡ at + 1 + k → k < many → get_or list i 0 < f.q → Unread f p (get_or list i 0) → First (Amiss f list at) (at + 1 + many) i × (Strange f list i → ⊥)
     step_fault i e l s u =

@@ -1,6 +1,6 @@
 -- How much room a part takes at most.
-use Rattle.std.proofs.Common.{◌≡◌, ℕ, ◌+◌, ◌-◌, ◌*◌, ◌/◌, ◌%◌, ◌<◌, ◌≤◌, List, ◌++◌, length, take, drop, replicate, sym, refl, ap, ◌∙◌, inl, inr, mul-le-mul_right, arith}
-use Rattle.std.proofs.Math.Nat.{mul-div_cancel_left, sub-zero}
+use Rattle.std.proofs.Common.{◌≡◌, ℕ, ◌+◌, ◌-◌, ◌*◌, ◌%◌, ◌<◌, ◌≤◌, List, ◌++◌, length, take, drop, replicate, refl, ap, ◌∙◌, inl, inr, mul-le-mul_right, arith}
+use Rattle.std.proofs.Math.Nat.{sub-zero}
 use borrow.Rule.Slice.PartMut.{put_mid}
 use Rattle.std.proofs.lemmas.Nat.{mul-le, mod_below}
 use Rattle.std.proofs.lemmas.List.{take_at, length-take, length-drop}
@@ -12,14 +12,12 @@ use Rattle.mapping.specs.Maps as maps
 use Rattle.mode.specs.declared.copies.Copies.{Copies}
 use Rattle.mode.specs.declared.copies.Copies.TheVariants.{One, Two, Four}
 use Rattle.mode.specs.Shares.{words, unsents}
-use Rattle.mode.specs.Orders.{Movable, interleaved}
+use Rattle.mode.specs.Orders.{interleaved}
 use Rattle.mode.specs.Copying.{spread}
 use Rattle.mode.specs.Modes.{Mode, Lawful, coded, plain, pad, total, count, padded, air}
 use Rattle.mode.specs.Chains.{chained, copy_count}
 use Rattle.mode.proofs.Splits.{words_room}
-use Rattle.mode.proofs.Moves.{copied_at}
 use Rattle.mode.proofs.Coding.{put_two}
-use Rattle.mode.proofs.Spoils.{length-spread}
 use Rattle.mode.proofs.Whole.{few_copies, wide, count_width}
 
 pub chain_lawful : (c : Code) (s : Copies) (f : Map) → codes.Lawful c → 16 ≤ c.k → maps.Lawful f → Lawful (chained c s f)
@@ -84,15 +82,6 @@ front_is xs ys n e = rw sub-zero (take_at xs ys n e)
 
 pub front_length : {A : Type 0} (xs ys : List A) (n : ℕ) → length xs ≡ n → length (take (n - 0) (xs ++ ys)) ≡ n
 front_length xs ys n e = ap length (front_is xs ys n e) ∙ e
-
-pub movable_front : {A : Type 0} (xs ys zs : List A) (n s t : ℕ) → length xs ≡ n → n ≡ s * t → 0 < s → (t ≡ 1 → ⊥) → length zs ≡ n → Movable s (take (n - 0) (xs ++ ys)) zs
-movable_front xs ys zs n s t e f p h l = rw (front_is xs ys n e) (rw (e ∙ f) (copied_at s t p h), l ∙ sym e)
-
--- the copies in the order in which they go out
-pub copies_out : (ws ys us vs : List ℕ) (s n : ℕ) → 0 < s → n ≡ s * length ws → vs ≡ ys → ys ≡ spread s ws → us ≡ interleaved s (length vs / s) vs → us ≡ interleaved s (length ws) (spread s ws)
-copies_out ws ys us vs s n p c d e f =
-    let k : length vs / s ≡ length ws = ap (λ j. j / s) (ap length (d ∙ e) ∙ length-spread s ws) ∙ mul-div_cancel_left (length ws) p in
-    f ∙ ap (λ j. interleaved s j vs) k ∙ ap (interleaved s (length ws)) (d ∙ e)
 
 pub air_is : (m : Mode) (xs ws us : List ℕ) (s : ℕ) → s ≡ m.copies → ws ≡ padded m xs → length ws ≡ total m (length xs) → us ≡ interleaved s (length ws) (spread s ws) → us ≡ air m xs
 unfolding air

@@ -43,6 +43,7 @@ pub(crate) fn put_words<C: BlockCode>(code: &C, bits: &[u8], output: &mut [u8])
 {
     let k = code.message_bits();
     let p = code.parity_bits();
+    // Places, since of what is written to parts by `split_at_mut` nothing is known after the loop.
     let mut from = 0;
     let mut at = 0;
     for i in 0..word_count(k, bits.len()) {
@@ -64,6 +65,7 @@ fn spread(copies: Copies, bits: &[u8], output: &mut [u8])
 {
     let s = copies.count();
     for (i, bit) in bits.iter().enumerate() {
+        // By index: of what is written to `chunks_exact_mut`, nothing is known after the loop.
         let at = s * i;
         output[at..at + s].fill(*bit);
     }

@@ -23,6 +23,7 @@ use block_code::{BlockCode, Shortened};
 use mapping::Mapping;
 
 // Reads the bits of so many symbols after index `at` of the list, or tells the first fault.
+// List, index and count stay apart: two functions share them, and a struct of them would lengthen each clause.
 fn read_part<M: Mapping>(
     mapping: &M,
     list: &[u8],
@@ -45,6 +46,7 @@ fn read_part<M: Mapping>(
         if usize::from(*symbol) >= q {
             return Err(PartFault::Symbol(i));
         }
+        // By index: of what is written to `chunks_exact_mut`, nothing is known after the loop.
         let from = w * k;
         mapping
             .read(prior, *symbol, &mut bits[from..from + w])
@@ -168,6 +170,7 @@ fn spoilt(copies: Copies, word: &[u8], heard: &[AirBit]) -> usize
     ensures { result ≡ spoilt_of (copy_count copies) word.now (bits_of heard.now) }
 {
     let s = copies.count();
+    // Not `filter` and `count` over the chunks: that chain found no proof.
     let mut n = 0;
     for (i, bit) in word.iter().enumerate() {
         let at = s * i;
@@ -257,6 +260,7 @@ pub(crate) fn hear_words<C: BlockCode>(
     let s = copies.count();
     let n = bits.len();
     let mut total = 0;
+    // Places, as in `put_words`.
     let mut from = 0;
     let mut at = 0;
     for j in 0..word_count(k, n) {

@@ -1,7 +1,7 @@
-use Rattle.std.proofs.Common.{◌≡◌, ◌+◌, ◌*◌, length, sym, ap, ◌∙◌, arith}
+use Rattle.std.proofs.Common.{◌≡◌, ◌+◌, ◌*◌, length, sym, ap, arith}
 use Rattle.bits.specs.Strings.{Bits}
-use Rattle.mode.proofs.Coding.{going_none, going_bits, going_more, going_all}
-use Rattle.mode.proofs.Strings.{bits_at, row_there}
+use Rattle.mode.proofs.Coding.{going_none, going_more}
+use Rattle.mode.proofs.Strings.{bits_at}
 use Rattle.mode.proofs.coder.step_through.Given.{Over}
 use Rattle.mode.proofs.coder.step_through.Goals as goal
 use Rattle.mode.proofs.coder.step_through.Goals.{In-loop-i}

@@ -5,7 +5,6 @@ use Rattle.mode.specs.Copying.{majority}
 use Rattle.mode.specs.Heard.{bits_of}
 use Rattle.mode.proofs.Deciding.{bits_part, decided_more}
 use Rattle.mode.proofs.decoder.decide_word.Goals as goal
-use Rattle.mode.proofs.decoder.decide_word.Goals.{In-loop-i}
 
 pub decide-requires-clause-bits : goal.decide-requires-clause-bits
 decide-requires-clause-bits c =

@@ -3,7 +3,7 @@ use Rattle.mode.specs.Copying.{differing}
 use Rattle.mode.specs.Heard.{bits_of}
 use Rattle.mode.proofs.Deciding.{against_is, spoilt_yes, spoilt_no}
 use Rattle.mode.proofs.decoder.spoilt.Goals as goal
-use Rattle.mode.proofs.decoder.spoilt.Goals.{In-loop-i, After-differing-against, then-against-s, else-against-s}
+use Rattle.mode.proofs.decoder.spoilt.Goals.{After-differing-against, then-against-s, else-against-s}
 
 -- what is counted in the copies of the next bit
 counted : (c : After-differing-against) → c.differing-against.result ≡ differing (get_or c.args.word.now c.loop-i.i 0) (take c.count-s.result (drop (c.count-s.result * c.loop-i.i) (bits_of c.args.heard.now)))
