@@ -44,7 +44,7 @@ pub struct Radio {
 
 // Opens a post on a channel of a band.
 fn open_band(band: u32, channel: u32) -> Result<Post<Band>, Fault> {
-    Post::open(Band::new(band)?, channel)
+    Post::open(Band::try_from(band)?, channel)
 }
 
 fn show_delivery(rt: &impl Print, delivered: Delivered, output: &[u8]) -> io::Result<()> {

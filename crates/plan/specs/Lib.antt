@@ -1,4 +1,3 @@
-pub mod Modes
 pub mod Bands
 pub mod Table
 pub mod Lawful

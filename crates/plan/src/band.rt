@@ -1,3 +1,8 @@
+ghost use Rattle.std.specs.Prelude.{◌≡◌};
+ghost use Rattle.plan.specs.Bands.{number_of, Numbered};
+
+use delivery::Fault;
+
 // The seven bands, each named by the frequency at which it begins.
 #[derive(Clone, Copy, PartialEq, Eq, Debug)]
 pub enum Band {
@@ -15,4 +20,33 @@ pub enum Band {
     Mhz2360,
     // 2400 to 2483.5 MHz
     Mhz2400,
+}
+
+impl TryFrom<u32> for Band {
+    type Error = Fault;
+
+    ghost try_from_gives = { Numbered };
+
+    // The band of a number, 0 to 6.
+    fn try_from(number: u32) -> Result<Band, Fault> {
+        match number {
+            0 => Ok(Band::Mhz402),
+            1 => Ok(Band::Mhz420),
+            2 => Ok(Band::Mhz863),
+            3 => Ok(Band::Mhz902),
+            4 => Ok(Band::Mhz950),
+            5 => Ok(Band::Mhz2360),
+            6 => Ok(Band::Mhz2400),
+            _ => Err(Fault::Band),
+        }
+    }
+}
+
+impl Band {
+    // Its number, 0 to 6.
+    pub fn number(&self) -> u32
+        ensures { result ≡ number_of self.now }
+    {
+        *self as u32
+    }
 }

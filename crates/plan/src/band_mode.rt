@@ -1,4 +1,5 @@
 // The modes of the bands: each has the name of its mapping and the count of its copies.
+// They are constants, which a proof looks into: the clause of a function of the copies would only repeat its body.
 use block_code::{Bch63, Plain};
 use mapping::{D8psk, Dbpsk, Dqpsk, Gmsk};
 use mode::Copies;

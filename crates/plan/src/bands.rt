@@ -1,6 +1,5 @@
 // The plans of the seven bands.
-ghost use Rattle.std.specs.Prelude.{◌≡◌};
-ghost use Rattle.plan.specs.Bands.{number_of, Numbered, plan_of};
+ghost use Rattle.plan.specs.Bands.{plan_of};
 ghost use Rattle.plan.specs.Lawful.{band_lawful};
 
 use crate::band::Band;
@@ -9,33 +8,7 @@ use crate::band_mode::{
 };
 use crate::preamble::preamble_bits;
 use crate::radio::RadioPlan;
-use delivery::Fault;
 use frame::NarrowbandHeader;
-
-impl Band {
-    // The band of a number, 0 to 6.
-    pub fn new(number: u32) -> Result<Band, Fault>
-        ensures { Numbered number result }
-    {
-        match number {
-            0 => Ok(Band::Mhz402),
-            1 => Ok(Band::Mhz420),
-            2 => Ok(Band::Mhz863),
-            3 => Ok(Band::Mhz902),
-            4 => Ok(Band::Mhz950),
-            5 => Ok(Band::Mhz2360),
-            6 => Ok(Band::Mhz2400),
-            _ => Err(Fault::Band),
-        }
-    }
-
-    // Its number, 0 to 6.
-    pub fn number(&self) -> u32
-        ensures { result ≡ number_of self.now }
-    {
-        *self as u32
-    }
-}
 
 impl RadioPlan for Band {
     type Mode = BandMode;
@@ -97,6 +70,6 @@ impl RadioPlan for Band {
                 Some(DQPSK_1),
             ],
         };
-        if rate < 4 { modes[rate as usize] } else { None }
+        *modes.get(rate as usize)?
     }
 }

@@ -17,6 +17,7 @@ pub use band_mode::BandMode;
 pub use radio::RadioPlan;
 
 // The bands in the order of their numbers, with what their plans say, and that each is lawful.
+#[tactic(auto, using(crate::proofs::Table::table))]
 pub fn all_bands() -> [Band; 7]
     ensures bands { result ≡ all_bands }
     ensures table { BandTable }

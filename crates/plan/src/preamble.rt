@@ -14,12 +14,14 @@ const SECOND: u64 = 0b0110100010000101100101010010011110000011011100110001110101
 const EXTENSION: u64 = 0b010101010101101101101101101;
 
 // The bits of the preamble on a channel.
+#[tactic(auto, unfolding(crate::specs::Bands::preamble))]
 pub(crate) fn preamble_bits(channel: u32) -> [u8; 90]
     ensures { result ≡ (if nat_eq (channel % 2) 0 then preamble_from first else preamble_from second) }
 {
     let sequence = if channel % 2 == 0 { FIRST } else { SECOND };
     let mut bits = [0; 90];
-    put_bits(sequence, &mut bits[0..63]);
-    put_bits(EXTENSION, &mut bits[63..90]);
+    let (front, back) = bits.split_at_mut(63);
+    put_bits(sequence, front);
+    put_bits(EXTENSION, back);
     bits
 }

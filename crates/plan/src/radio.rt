@@ -1,6 +1,6 @@
 ghost use Rattle.std.specs.Prelude.{◌≡◌, ◌%◌, if◌then◌else◌, nat_eq};
 ghost use Rattle.delivery.specs.Plans.{Plan, Lawful};
-ghost use Rattle.plan.specs.Modes.{mode_of};
+ghost use Rattle.std.specs.Option.{option_map};
 
 use frame::HeaderForm;
 use mode::carrier::Carrier;
@@ -33,7 +33,7 @@ pub trait RadioPlan: Copy {
 
     // The mode of a payload of this rate, unless the rate is reserved.
     fn payload(&self, rate: u32) -> Option<Self::Mode>
-        ensures { (plan self.now).rate rate ≡ mode_of Self.Mode.Carrier.mode result };
+        ensures { (plan self.now).rate rate ≡ option_map Self.Mode.Carrier.mode result };
 
     ghost lawful: { (p : Self) → Lawful (plan p) };
 }

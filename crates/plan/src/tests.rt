@@ -24,30 +24,27 @@ const BANDS: [(u32, u8, usize, [Option<usize>; 4]); 7] = [
 
 // How many symbols 72 bits take, unless the rate is reserved.
 fn symbols(mode: Option<BandMode>) -> Result<Option<usize>, BadCall> {
-    match mode {
-        Some(mode) => Ok(Some(mode.symbol_count(72)?)),
-        None => Ok(None),
-    }
+    mode.map(|mode| mode.symbol_count(72)).transpose()
 }
 
 #[test]
 fn has_seven_bands(rt: HostRuntime) -> Result<(), Fail> {
     let bands = all_bands();
-    for number in 0..7u32 {
-        let (last, start, header, payload) = BANDS[number as usize];
-        let band = Band::new(number)?;
-        assert_eq!(rt; band, bands[number as usize]);
+    for (number, (expected, row)) in (0..7u32).zip(bands.iter().zip(&BANDS)) {
+        let (last, start, header, payload) = *row;
+        let band = Band::try_from(number)?;
+        assert_eq!(rt; band, *expected);
         assert_eq!(rt; band.number(), number);
         assert_eq!(rt; band.last_channel(), last);
         assert_eq!(rt; band.start(), start);
         assert_eq!(rt; band.header().symbol_count(19), Ok(header));
-        for rate in 0..4u32 {
-            assert_eq!(rt; symbols(band.payload(rate)), Ok(payload[rate as usize]));
+        for (rate, expected) in (0..4u32).zip(payload) {
+            assert_eq!(rt; symbols(band.payload(rate)), Ok(expected));
         }
         assert!(rt; band.payload(4).is_none());
     }
-    assert_eq!(rt; Band::new(7), Err(Fault::Band));
-    assert_eq!(rt; Band::new(u32::MAX), Err(Fault::Band));
+    assert_eq!(rt; Band::try_from(7), Err(Fault::Band));
+    assert_eq!(rt; Band::try_from(u32::MAX), Err(Fault::Band));
     Ok(())
 }
 
