@@ -48,7 +48,7 @@ module _ (m : Mode) (M : modes.Lawful m) (n p : ℕ) (xs : List ℕ) (b : Bits n
       (record { size = a.size ∙ sym (ap (λ k. count m k * m.map.w) b.size ∙ count_width m M n); bits = a.bits })
 
 module _ (P : Plan) (L : Lawful P) where
-  preamble_bits : (c : ℕ) → Bits 90 (cond (eqb (c % 2) 0) P.even P.odd)
+  pub preamble_bits : (c : ℕ) → Bits 90 (cond (eqb (c % 2) 0) P.even P.odd)
   preamble_bits c = elim (eqb (c % 2) 0) as (λ t. Bits 90 (cond t P.even P.odd)) [ true ↦ L.even | false ↦ L.odd ]
 
   pub length-preamble : (c : ℕ) → length (preamble P c) ≡ 90
@@ -82,7 +82,7 @@ module _ (P : Plan) (L : Lawful P) where
     unfolding header_sent header_count
     length-header = length_sent P.header L.header (forms.count P.form) p (forms.header P.form (fields f)) bits
 
-    header_last : last_of p (header_sent P p f) < P.header.map.q
+    pub header_last : last_of p (header_sent P p f) < P.header.map.q
     unfolding header_sent
     header_last =
         last_below P.header.map.q p (header_sent P p f) h

@@ -1,4 +1,4 @@
+pub mod Stepping
 pub mod Calling
 pub mod Framing
-pub mod Requests
 pub mod Listening

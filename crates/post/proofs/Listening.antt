@@ -53,127 +53,92 @@ reach_few m M list at n xs c R =
 
 -- ---- after the header
 
-module _ (P : Plan) (L : Lawful P) (m : Mode) (f : Form) (em : m ≡ P.header) (ef : f ≡ P.form) (ls : List Bool) (el : ls ≡ legal P) (list : List ℕ)
-    (k h : ℕ) (ek : k ≡ forms.count f) (eh : h ≡ count m k) where
-  pub head_is : h ≡ header_count P
-  unfolding header_count
-  head_is = eh ∙ ap₂ count em (ek ∙ ap forms.count ef)
+module _ (P : Plan) (L : Lawful P) (list : List ℕ) (hd : Header) (s : ℕ) (G : HeaderReads P list (Ok (hd, s))) where
+  pub ranges : InRange P.form (fields_of hd)
+  ranges = (L.form.written_back (legal P) G.0 (fields_of hd) G.1.valid G.2).0
 
-  pub header_there : 1 + h ≤ length list → There m list 0 (forms.count f)
-  header_there l =
-      let z : h ≡ count m (forms.count f) = eh ∙ ap (count m) ek in
-      record { carried = subst (λ g. modes.Carried (forms.count g)) (sym ef) L.size; long = omega arith }
+  pub seed_bit : hd.seed < 2
+  seed_bit = subst (λ q. hd.seed < q) L.seeds ranges.seed
 
-  own : (r : Result (Header × ℕ) HeaderFault) → HeaderReads f m ls list r → HeaderReads P.form P.header (legal P) list r
-  own r x =
-      subst (λ z. HeaderReads P.form z (legal P) list r) em (subst (λ z. HeaderReads z m (legal P) list r) ef (subst (λ z. HeaderReads f m z list r) el x))
+  pub carries : modes.Carried (8 * hd.bytes)
+  carries = record { low = omega (arith, ranges.low); high = omega (arith, ranges.high) }
 
-  module _ (long : 1 + h ≤ length list) where
-    long_own : 1 + header_count P ≤ length list
-    long_own = subst (λ z. 1 + z ≤ length list) head_is long
+  pub spoilt-header : s ≤ 8318
+  spoilt-header = reach_few P.header L.header list 0 (forms.count P.form) G.0 s G.1
 
-    faulty : (e : HeaderFault) → HeaderReads P.form P.header (legal P) list (Err e) → HeaderFaulty P list e
-    faulty (HeaderPart e) x = (long_own, x)
-    faulty (HeaderForm e) (bits, s, R, rd) = (bits, record { long = long_own; spoilt = s; reach = R }, rd)
+  -- the header has the h symbols after the first, and the payload, of the mode n, the p after these
+  module _ (h : ℕ) (eh : h ≡ header_count P) (long : 1 + h ≤ length list) (n : Mode) (en : P.rate hd.rate ≡ Some n) (p : ℕ) (ep : p ≡ count n (8 * hd.bytes)) where
+    N : modes.Lawful n
+    N = L.modes hd.rate n en
 
-    pub header_faulty : (e : HeaderFault) → HeaderReads f m ls list (Err e) → HeaderFaulty P list e
-    header_faulty e x = faulty e (own (Err e) x)
+    said : Said P list (fields_of hd) n
+    said = record { bits = G.0; headed = record { long = subst (λ i. 1 + i ≤ length list) eh long; spoilt = s; reach = G.1 }; read = G.2; carried = en }
 
-    module _ (hd : Header) (s : ℕ) (got : HeaderReads f m ls list (Ok (hd, s))) where
-      G : HeaderReads P.form P.header (legal P) list (Ok (hd, s))
-      G = own (Ok (hd, s)) got
+    needed_is : 1 + h + p ≡ needed P n hd.bytes
+    needed_is = ap₂ (λ i j. 1 + i + j) eh ep
 
-      headed : Headed P list G.0
-      headed = record { long = long_own; spoilt = s; reach = G.1 }
+    pub length_faulty : (length list ≡ 1 + h + p → ⊥) → PayloadFaulty P list (Length (1 + h + p))
+    length_faulty ne = (fields_of hd, n, said, ne, needed_is)
 
-      pub ranges : InRange P.form (fields_of hd)
-      ranges = (L.form.written_back (legal P) G.0 (fields_of hd) G.1.valid G.2).0
+    module _ (whole : length list ≡ 1 + h + p) (output : List ℕ) (room : 264 ≤ length output) where
+      places : length (take hd.bytes output) ≡ hd.bytes
+      places = length-take-le hd.bytes output (omega (arith, ranges.high))
 
-      pub seed_bit : hd.seed < 2
-      seed_bit = subst (λ q. hd.seed < q) L.seeds ranges.seed
+      pub payload_there : There n list h (8 * length (take hd.bytes output))
+      payload_there = subst (λ i. There n list h (8 * i)) (sym places) (record { carried = carries; long = omega (arith, ep, whole) })
 
-      pub carries : modes.Carried (8 * hd.bytes)
-      carries = record { low = omega (arith, ranges.low); high = omega (arith, ranges.high) }
+      module _ (after : List ℕ) where
+        from_head : (r : Result ℕ PayloadFault) → PayloadReads n hd.seed list h (take hd.bytes output) after r
+            → PayloadReads n hd.seed list (header_count P) (take hd.bytes output) after r
+        from_head r x = subst (λ i. PayloadReads n hd.seed list i (take hd.bytes output) after r) eh x
 
-      pub spoilt-header : s ≤ 8318
-      spoilt-header = reach_few P.header L.header list 0 (forms.count P.form) G.0 s G.1
+        faulty : (e : PayloadFault) → PayloadReads n hd.seed list (header_count P) (take hd.bytes output) after (Err e)
+            → PayloadFaulty P list e × (after ++ drop hd.bytes output ≡ output)
+        faulty (Length i) x = absurd x
+        faulty (PayloadPart e) (x, y) = (
+          (fields_of hd, n, said, whole ∙ needed_is, subst (λ i. Faulty n list (header_count P) (8 * i) e) places x),
+          ap (λ zs. zs ++ drop hd.bytes output) y ∙ take-append-drop hd.bytes output,
+        )
 
-      pub has_mode : P.rate hd.rate ≡ None → ⊥
-      has_mode none =
-          let c : Carried (legal P) hd.rate = subst (λ z. Carried (legal P) z.rate) (sym G.2.3) G.2.2 in
-          let q = legal-carried P hd.rate c in
-          let a = q.1 in
-          let z : ◌≡◌ {A = ℕ} 0 1 = cc in omega arith
+        -- the output after a fault
+        pub payload_faulty : (e : PayloadFault) → PayloadReads n hd.seed list h (take hd.bytes output) after (Err e)
+            → PayloadFaulty P list e × (after ++ drop hd.bytes output ≡ output)
+        payload_faulty e x = faulty e (from_head (Err e) x)
 
-      module _ (n : Mode) (en : P.rate hd.rate ≡ Some n) (p : ℕ) (ep : p ≡ count n (8 * hd.bytes)) where
-        N : modes.Lawful n
-        N = L.modes hd.rate n en
+        module _ (q : ℕ) (got : PayloadReads n hd.seed list h (take hd.bytes output) after (Ok q)) where
+          x : PayloadReads n hd.seed list (header_count P) (take hd.bytes output) after (Ok q)
+          x = from_head (Ok q) got
 
-        pub said : Said P list (fields_of hd) n
-        said = record { bits = G.0; headed = headed; read = G.2; carried = en }
+          size : length after ≡ hd.bytes
+          size = x.0 ∙ places
 
-        pub needed_is : 1 + h + p ≡ needed P n hd.bytes
-        needed_is = ap₂ (λ a b. 1 + a + b) head_is ep
+          reach : Reach n list (header_count P) (8 * length after) (scrambled hd.seed after) q
+          reach = subst (λ i. Reach n list (header_count P) (8 * i) (scrambled hd.seed after) q) (sym x.0) x.2
 
-        pub length_faulty : (length list ≡ 1 + h + p → ⊥) → PayloadFaulty P list (Length (1 + h + p))
-        length_faulty ne = (fields_of hd, n, said, ne, needed_is)
+          pub spoilt_payload : q ≤ 8318
+          spoilt_payload = reach_few n N list (header_count P) (8 * length after) (scrambled hd.seed after) q reach
 
-        module _ (whole : length list ≡ 1 + h + p) (output : List ℕ) (room : 264 ≤ length output) where
-          places : length (take (hd.bytes - 0) output) ≡ hd.bytes
-          places =
-              let z : hd.bytes - 0 ≡ hd.bytes = omega arith in
-              ap (λ i. length (take i output)) z ∙ length-take-le hd.bytes output (omega (arith, ranges.high))
+          same : fields_of hd ≡ fields (record { rate = hd.rate; burst = hd.burst; seed = hd.seed; psdu = after })
+          same = ap (λ i. record { rate = hd.rate; bytes = i; burst = hd.burst; seed = hd.seed }) (sym size)
 
-          pub payload_there : There n list h (8 * length (take (hd.bytes - 0) output))
-          payload_there =
-              subst (λ i. There n list h (8 * i)) (sym places) (record { carried = carries; long = omega (arith, ep, whole) })
-
-          module _ (after : List ℕ) where
-            -- the output after a fault
-            pub payload_faulty : (e : PayloadFault) → PayloadReads n hd.seed list h (take (hd.bytes - 0) output) after (Err e)
-                → PayloadFaulty P list e × (after ++ drop (hd.bytes - 0) output ≡ output)
-            payload_faulty (Length i) x = absurd x
-            payload_faulty (PayloadPart e) (x, y) = (
-              (fields_of hd, n, said, whole ∙ needed_is, subst (λ i. Faulty n list i (8 * hd.bytes) e) head_is (subst (λ i. Faulty n list h (8 * i) e) places x)),
-              ap (λ zs. zs ++ drop (hd.bytes - 0) output) y ∙ take-append-drop (hd.bytes - 0) output,
-            )
-
-            module _ (q : ℕ) (x : PayloadReads n hd.seed list h (take (hd.bytes - 0) output) after (Ok q)) where
-              size : length after ≡ hd.bytes
-              size = x.0 ∙ places
-
-              reach : Reach n list (header_count P) (8 * length after) (scrambled hd.seed after) q
-              reach =
-                  subst (λ i. Reach n list (header_count P) (8 * i) (scrambled hd.seed after) q) (sym x.0)
-                  (subst (λ i. Reach n list i (8 * length (take (hd.bytes - 0) output)) (scrambled hd.seed after) q) head_is x.2)
-
-              pub spoilt_payload : q ≤ 8318
-              spoilt_payload = reach_few n N list (header_count P) (8 * length after) (scrambled hd.seed after) q reach
-
-              frame : Frame
-              frame = record { rate = hd.rate; burst = hd.burst; seed = hd.seed; psdu = after }
-
-              same : fields_of hd ≡ fields (record { rate = hd.rate; burst = hd.burst; seed = hd.seed; psdu = after })
-              same = ap (λ i. record { rate = hd.rate; bytes = i; burst = hd.burst; seed = hd.seed }) (sym size)
-
-              pub delivered : Delivers P list output (after ++ drop (hd.bytes - 0) output)
-                  (record { rate = hd.rate; burst = hd.burst; seed = hd.seed; bytes = hd.bytes; spoilt = s + q })
-              delivered =
-                  record {
-                    room = room;
-                    psdu = after;
-                    bytes = sym size;
-                    legal_frame = record { mode = n; carried = en; ranges = subst (InRange P.form) same ranges; bytes = x.1 };
-                    reach = record {
-                      mode = n;
-                      carried = en;
-                      long = whole ∙ needed_is ∙ ap (needed P n) (sym size);
-                      in_header = s;
-                      in_payload = q;
-                      header = subst (λ ys. Reach P.header list 0 (forms.count P.form) ys s)
-                          (sym (L.form.written_back (legal P) G.0 (fields_of hd) G.1.valid G.2).1 ∙ ap (forms.header P.form) same) G.1;
-                      payload = reach;
-                      sum = refl;
-                    };
-                    put = let z : hd.bytes - 0 ≡ length after = omega (arith, size) in ap (λ i. after ++ drop i output) z;
-                  }
+          pub delivered : Delivers P list output (after ++ drop hd.bytes output)
+              (record { rate = hd.rate; burst = hd.burst; seed = hd.seed; bytes = hd.bytes; spoilt = s + q })
+          delivered =
+              record {
+                room = room;
+                psdu = after;
+                bytes = sym size;
+                legal_frame = record { mode = n; carried = en; ranges = subst (InRange P.form) same ranges; bytes = x.1 };
+                reach = record {
+                  mode = n;
+                  carried = en;
+                  long = whole ∙ needed_is ∙ ap (needed P n) (sym size);
+                  in_header = s;
+                  in_payload = q;
+                  header = subst (λ ys. Reach P.header list 0 (forms.count P.form) ys s)
+                      (sym (L.form.written_back (legal P) G.0 (fields_of hd) G.1.valid G.2).1 ∙ ap (forms.header P.form) same) G.1;
+                  payload = reach;
+                  sum = refl;
+                };
+                put = ap (λ i. after ++ drop i output) (sym size);
+              }

@@ -17,40 +17,25 @@ use Rattle.mode.specs.Modes.{Mode}
 use Rattle.mode.specs.Parts.{Reach}
 use Rattle.mode.specs.Answers.{Faulty}
 use Rattle.delivery.specs.declared.fault.HeaderFault.{HeaderFault}
-use Rattle.delivery.specs.declared.fault.HeaderFault.TheVariants.{Part as HeaderPart, Form as HeaderForm}
 use Rattle.delivery.specs.declared.fault.PayloadFault.{PayloadFault}
 use Rattle.delivery.specs.declared.fault.PayloadFault.TheVariants.{Length, Part as PayloadPart}
+use Rattle.delivery.specs.Plans.{Plan, legal}
+use Rattle.delivery.specs.Calls.{HeaderFaulty}
 
 -- the call was not a bad one
-abbrev pub NoCall : Result ℕ HearFault → Type 0
-NoCall (Ok n) = Unit {0}
-NoCall (Err (Part f)) = Unit {0}
-NoCall (Err (Call e)) = ⊥
+abbrev pub NoCall : HearFault → Type 0
+NoCall (Part f) = Unit {0}
+NoCall (Call e) = ⊥
 
--- what was heard, or the fault of the part
-abbrev pub part_of : Result ℕ HearFault → Result ℕ PartFault
-part_of (Ok n) = Ok n
-part_of (Err (Part f)) = Err f
-part_of (Err (Call e)) = Ok 0
+abbrev pub NoBadRead : ReadHeaderFault → Type 0
+NoBadRead (Unformed f) = Unit {0}
+NoBadRead (BadRead e) = ⊥
 
-abbrev pub NoBadRead : Result Header ReadHeaderFault → Type 0
-NoBadRead (Ok h) = Unit {0}
-NoBadRead (Err (Unformed f)) = Unit {0}
-NoBadRead (Err (BadRead e)) = ⊥
-
--- the header that was read, or the fault of its form
-abbrev pub Forms : Result Header ReadHeaderFault → Result Header FormFault → Type 0
-Forms (Ok h) r = r ≡ Ok h
-Forms (Err (Unformed f)) r = r ≡ Err f
-Forms (Err (BadRead e)) r = ⊥
-
--- what the header of a list is read as, with its count of spoilt bits
-abbrev pub HeaderReads : Form → Mode → List Bool → List ℕ → Result (Header × ℕ) HeaderFault → Type 0
-HeaderReads f m legal list (Ok hk) =
-    (bits : List ℕ) × Reach m list 0 (forms.count f) bits hk.1 × Read f legal bits (Ok (fields_of hk.0))
-HeaderReads f m legal list (Err (HeaderPart e)) = Faulty m list 0 (forms.count f) e
-HeaderReads f m legal list (Err (HeaderForm e)) =
-    (bits : List ℕ) × (k : ℕ) × Reach m list 0 (forms.count f) bits k × Read f legal bits (Err e)
+-- what the header of a list is read as, with its count of spoilt bits, or the fault
+abbrev pub HeaderReads : Plan → List ℕ → Result (Header × ℕ) HeaderFault → Type 0
+HeaderReads P list (Ok hk) =
+    (bits : List ℕ) × Reach P.header list 0 (forms.count P.form) bits hk.1 × Read P.form (legal P) bits (Ok (fields_of hk.0))
+HeaderReads P list (Err e) = HeaderFaulty P list e
 
 -- what the payload of a list is read as: the bytes, and the count of spoilt bits, or the fault
 abbrev pub PayloadReads : Mode → ℕ → List ℕ → ℕ → List ℕ → List ℕ → Result ℕ PayloadFault → Type 0

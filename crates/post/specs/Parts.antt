@@ -1,32 +1,23 @@
--- The parts of a frame, over the modes of its header and its payload.
-use Rattle.std.specs.Prelude.{◌≡◌, ℕ, ◌+◌, ◌*◌, ◌<◌, List, ◌++◌, length}
-use Rattle.bits.specs.Strings.{Bits}
-use Rattle.frame.specs.Headers.{Fields, Form, InRange, header}
-use Rattle.frame.specs.Headers as forms
-use Rattle.frame.specs.Scrambler.{scrambled}
-use Rattle.mode.specs.Modes.{Mode, Carried, stepped, sent, count}
-use Rattle.delivery.specs.Frames.{last_of}
+-- What a post writes and remembers.
+use Rattle.std.specs.Prelude.{◌≡◌, ℕ, ◌+◌, ◌*◌, List, length, Some}
+use Rattle.frame.specs.declared.header.Header.{Header}
+use Rattle.mode.specs.Modes.{Mode, count}
+use Rattle.delivery.specs.Plans.{Plan}
+use Rattle.delivery.specs.Frames.{Frame, Legal, header_count}
+use Rattle.delivery.specs.Calls.{State}
+use Rattle.post.specs.declared.post.Post.{Post}
 
--- what a frame is made of can be written to so many symbols, where its payload begins at `head`
-pub record Writable (f : Form) (m n : Mode) (start : ℕ) (preamble : List ℕ) (x : Fields) (psdu : List ℕ) (head size : ℕ) : Type 0 where
-  pub one : m.map.w ≡ 1
-  pub shared : n.map.q ≡ m.map.q
-  pub start_known : start < m.map.q
-  pub bits : Bits 90 preamble
-  pub ranges : InRange f x
-  pub seed : x.seed < 2
-  pub bytes : x.bytes ≡ length psdu
-  pub few : Carried (forms.count f)
-  pub head_is : head ≡ 90 + count m (forms.count f)
-  pub size_is : size ≡ head + count n (8 * length psdu)
+-- the channel and the seed of a post
+abbrev pub state_of : {A : Type 0} → Post A → State
+state_of p = record { channel = p.channel; seed = p.seed }
 
--- the symbols of the preamble
-abbrev pub front : Mode → ℕ → List ℕ → List ℕ
-front m start preamble = stepped m.map 90 start preamble
+-- the frame of a header and a PSDU
+abbrev pub frame_of : Header → List ℕ → Frame
+frame_of h psdu = record { rate = h.rate; burst = h.burst; seed = h.seed; psdu = psdu }
 
--- preamble, header and payload, each after the symbol before it
-abbrev pub written : Form → Mode → Mode → ℕ → List ℕ → Fields → List ℕ → List ℕ
-written f m n start preamble x psdu =
-    front m start preamble
-    ++ (sent m (last_of start (front m start preamble)) (header f x)
-    ++ sent n (last_of (last_of start (front m start preamble)) (sent m (last_of start (front m start preamble)) (header f x))) (scrambled x.seed psdu))
+-- the frame of a header and a PSDU can be written to so many symbols, its payload by this mode
+pub record Writable (P : Plan) (m : Mode) (h : Header) (psdu : List ℕ) (size : ℕ) : Type 0 where
+  pub legal : Legal P (frame_of h psdu)
+  pub carried : P.rate h.rate ≡ Some m
+  pub bytes : h.bytes ≡ length psdu
+  pub size_is : size ≡ 90 + header_count P + count m (8 * length psdu)

@@ -1,33 +1,20 @@
-ghost use Rattle.std.specs.Prelude.{◌≡◌, ◌≤◌, Ok, Err, MatchResult};
-ghost use Rattle.mode.specs.Modes.{Carried, count as count_of};
+ghost use Rattle.std.specs.Prelude.{◌≡◌, Ok, Err, MatchResult};
 ghost use Rattle.delivery.specs.Calls.{Opens, Retunes, Sends, Hears};
 ghost use Rattle.delivery.specs.Delivery.{Delivery};
-ghost use Rattle.delivery.specs.Plans.{legal};
+ghost use Rattle.post.specs.Parts.{state_of};
 
+use crate::counting::{count, header_count};
 use crate::hearing::{read_header, read_payload};
 use crate::post::Post;
 use crate::sending::write_frame;
 use delivery::{Delivered, Fault, PayloadFault};
-use frame::{Header, HeaderForm};
-use mode::Carrier;
+use frame::Header;
 use plan::RadioPlan;
-
-// How many symbols n bits take, which the mode carries.
-fn count<C: Carrier>(mode: &C, n: usize) -> usize
-    requires { Carried n }
-    ensures value { result ≡ count_of (C.Carrier.mode mode.now) n }
-    ensures few { result ≤ 33272 }
-{
-    match mode.symbol_count(n) {
-        Ok(count) => count,
-        Err(_) => unreachable(),
-    }
-}
 
 impl<P: RadioPlan> Post<P> {
     // Opens a post on a channel of its plan. The delivery theorem holds of every post of the plan.
     pub fn open(plan: P, channel: u32) -> Result<Post<P>, Fault>
-        ensures opens { MatchResult result (λ p. (p.plan ≡ plan) × Opens (P.RadioPlan.plan plan) channel (Ok (record { channel = p.channel; seed = p.seed }))) (λ f. Opens (P.RadioPlan.plan plan) channel (Err f)) }
+        ensures opens { MatchResult result (λ p. (p.plan ≡ plan) × Opens (P.RadioPlan.plan plan) channel (Ok (state_of p))) (λ f. Opens (P.RadioPlan.plan plan) channel (Err f)) }
         ensures delivers { Delivery (P.RadioPlan.plan plan) }
     {
         if channel > plan.last_channel() {
@@ -43,7 +30,7 @@ impl<P: RadioPlan> Post<P> {
     // Changes the channel alone.
     pub fn retune(&mut self, channel: u32) -> Result<(), Fault>
         ensures plan { self.new.plan ≡ self.old.plan }
-        ensures retunes { Retunes (P.RadioPlan.plan self.old.plan) (record { channel = self.old.channel; seed = self.old.seed }) channel (record { channel = self.new.channel; seed = self.new.seed }) result }
+        ensures retunes { Retunes (P.RadioPlan.plan self.old.plan) (state_of self.old) channel (state_of self.new) result }
     {
         if channel > self.plan.last_channel() {
             return Err(Fault::Channel);
@@ -61,7 +48,7 @@ impl<P: RadioPlan> Post<P> {
         symbols: &mut [u8],
     ) -> Result<usize, Fault>
         ensures plan { self.new.plan ≡ self.old.plan }
-        ensures sends { Sends (P.RadioPlan.plan self.old.plan) (record { channel = self.old.channel; seed = self.old.seed }) (record { rate = rate; burst = burst; psdu = psdu.now }) symbols.old (record { channel = self.new.channel; seed = self.new.seed }) symbols.new result }
+        ensures sends { Sends (P.RadioPlan.plan self.old.plan) (state_of self.old) (record { rate = rate; burst = burst; psdu = psdu.now }) symbols.old (state_of self.new) symbols.new result }
     {
         if burst > 1 {
             return Err(Fault::Burst);
@@ -75,10 +62,7 @@ impl<P: RadioPlan> Post<P> {
         if psdu.len() < 9 || psdu.len() > 264 {
             return Err(Fault::Psdu);
         }
-        let form = self.plan.form();
-        let mode = self.plan.header();
-        let head = 90 + count(&mode, form.bits_count());
-        let needed = head + count(&payload, 8 * psdu.len());
+        let needed = 90 + header_count(&self.plan) + count(&payload, 8 * psdu.len());
         if symbols.len() < needed {
             return Err(Fault::Buffer(needed));
         }
@@ -88,17 +72,13 @@ impl<P: RadioPlan> Post<P> {
             burst: burst as u8,
             seed: self.seed,
         };
-        let preamble = self.plan.preamble(self.channel);
         write_frame(
-            &form,
-            &mode,
+            &self.plan,
+            self.channel,
             &payload,
-            self.plan.start(),
-            &preamble,
             &header,
             psdu,
-            head,
-            &mut symbols[0..needed],
+            &mut symbols[..needed],
         );
         self.seed = 1 - self.seed;
         Ok(needed)
@@ -112,14 +92,11 @@ impl<P: RadioPlan> Post<P> {
         if output.len() < 264 {
             return Err(Fault::Output);
         }
-        let form = self.plan.form();
-        let mode = self.plan.header();
-        let head = count(&mode, form.bits_count());
+        let head = header_count(&self.plan);
         if list.len() < 1 + head {
             return Err(Fault::List(list.len()));
         }
-        let legal = self.legal_rates();
-        let (header, spoilt) = read_header(&form, &mode, list, &legal)?;
+        let (header, spoilt) = read_header(&self.plan, list)?;
         let Some(payload) = self.plan.payload(u32::from(header.rate)) else {
             unreachable()
         };
@@ -128,7 +105,7 @@ impl<P: RadioPlan> Post<P> {
         if list.len() != needed {
             return Err(Fault::Payload(PayloadFault::Length(needed)));
         }
-        let more = read_payload(&payload, header.seed, list, head, &mut output[0..bytes])?;
+        let more = read_payload(&payload, header.seed, list, head, &mut output[..bytes])?;
         Ok(Delivered {
             rate: header.rate,
             burst: header.burst,
@@ -136,17 +113,5 @@ impl<P: RadioPlan> Post<P> {
             bytes,
             spoilt: spoilt + more,
         })
-    }
-
-    // For each rate, whether the plan has a mode.
-    fn legal_rates(&self) -> [bool; 4]
-        ensures { result ≡ legal (P.RadioPlan.plan self.now.plan) }
-    {
-        [
-            self.plan.payload(0).is_some(),
-            self.plan.payload(1).is_some(),
-            self.plan.payload(2).is_some(),
-            self.plan.payload(3).is_some(),
-        ]
     }
 }

@@ -1,90 +1,61 @@
 // The parts of a heard list, read one after the other.
-ghost use Rattle.std.specs.Prelude.{◌≡◌, ◌+◌, ◌*◌, ◌<◌, ◌≤◌, Bool, length};
-ghost use Rattle.frame.specs.Headers.{count as bits_of};
-ghost use Rattle.mode.specs.Modes.{Carried, count as count_of};
+ghost use Rattle.std.specs.Prelude.{◌≡◌, ◌+◌, ◌*◌, ◌<◌, ◌≤◌, length};
+ghost use Rattle.mode.specs.declared.fault.HearFault.TheVariants.{Part};
 ghost use Rattle.mode.specs.Parts.{There};
-ghost use Rattle.post.specs.Heard.{NoCall, part_of, NoBadRead, Forms, HeaderReads, PayloadReads};
+ghost use Rattle.frame.specs.declared.fault.ReadHeaderFault.TheVariants.{Form};
+ghost use Rattle.delivery.specs.Plans.{legal};
+ghost use Rattle.delivery.specs.Frames.{header_count as header_count_of};
+ghost use Rattle.post.specs.Heard.{NoCall, NoBadRead, HeaderReads, PayloadReads};
 
+use crate::counting::MAX_BITS;
 use delivery::{HeaderFault, PayloadFault};
 use frame::{FormFault, Header, HeaderForm, ReadHeaderFault, unscramble};
 use mode::{Carrier, HearFault, PartFault};
+use plan::RadioPlan;
 
-const MAX_BITS: usize = 2112;
-
-// What a carrier heard; its call was not a bad one.
-fn heard(answer: Result<usize, HearFault>) -> Result<usize, PartFault>
-    requires { NoCall answer }
-    ensures { result ≡ part_of answer }
+// What is at fault in a part, where the call was not a bad one.
+fn part_fault(fault: HearFault) -> PartFault
+    requires { NoCall fault }
+    ensures { fault ≡ Part result }
 {
-    match answer {
-        Ok(spoilt) => Ok(spoilt),
-        Err(HearFault::Part(fault)) => Err(fault),
-        Err(HearFault::Call(_)) => unreachable(),
+    match fault {
+        HearFault::Part(fault) => fault,
+        HearFault::Call(_) => unreachable(),
     }
 }
 
-// What a header form read; its call was not a bad one.
-fn formed(answer: Result<Header, ReadHeaderFault>) -> Result<Header, FormFault>
-    requires { NoBadRead answer }
-    ensures { Forms answer result }
+// What is at fault in a header's bits, where the call was not a bad one.
+fn form_fault(fault: ReadHeaderFault) -> FormFault
+    requires { NoBadRead fault }
+    ensures { fault ≡ Form result }
 {
-    match answer {
-        Ok(header) => Ok(header),
-        Err(ReadHeaderFault::Form(fault)) => Err(fault),
-        Err(ReadHeaderFault::Call(_)) => unreachable(),
+    match fault {
+        ReadHeaderFault::Form(fault) => fault,
+        ReadHeaderFault::Call(_) => unreachable(),
     }
 }
 
-// Reads the header of a list; `bits` is room for its bits.
-fn hear_header<F: HeaderForm, C: Carrier>(
-    form: &F,
-    mode: &C,
-    list: &[u8],
-    legal: &[bool; 4],
-    bits: &mut [u8],
-) -> Result<(Header, usize), HeaderFault>
-    requires places { length bits.old ≡ bits_of F.HeaderForm.form }
-    requires there { There (C.Carrier.mode mode.now) list.now 0 (bits_of F.HeaderForm.form) }
-    ensures { HeaderReads F.HeaderForm.form (C.Carrier.mode mode.now) legal.now list.now result }
+// For each of the rates 0 to 3, whether the plan has a mode.
+fn legal_rates<P: RadioPlan>(plan: &P) -> [bool; 4]
+    ensures { result ≡ legal (P.RadioPlan.plan plan.now) }
 {
-    let spoilt = heard(mode.hear(list, 0, bits))?;
-    let header = formed(form.read(bits, legal))?;
+    [0, 1, 2, 3].map(|rate| plan.payload(rate).is_some())
+}
+
+// Reads the header of a list, with the count of its spoilt bits.
+pub fn read_header<P: RadioPlan>(plan: &P, list: &[u8]) -> Result<(Header, usize), HeaderFault>
+    requires { 1 + header_count_of (P.RadioPlan.plan plan.now) ≤ length list.now }
+    ensures { HeaderReads (P.RadioPlan.plan plan.now) list.now result }
+{
+    let form = plan.form();
+    let mut buffer = [0; MAX_BITS];
+    let bits = &mut buffer[..form.bits_count()];
+    let spoilt = plan.header().hear(list, 0, bits).map_err(part_fault)?;
+    let header = form.read(bits, &legal_rates(plan)).map_err(form_fault)?;
     Ok((header, spoilt))
 }
 
-pub fn read_header<F: HeaderForm, C: Carrier>(
-    form: &F,
-    mode: &C,
-    list: &[u8],
-    legal: &[bool; 4],
-) -> Result<(Header, usize), HeaderFault>
-    requires { There (C.Carrier.mode mode.now) list.now 0 (bits_of F.HeaderForm.form) }
-    ensures { HeaderReads F.HeaderForm.form (C.Carrier.mode mode.now) legal.now list.now result }
-{
-    let n = form.bits_count();
-    let mut bits = [0u8; MAX_BITS];
-    hear_header(form, mode, list, legal, &mut bits[0..n])
-}
-
-// Reads the payload of a list after index `at`; `bits` is room for its bits.
-fn hear_payload<C: Carrier>(
-    mode: &C,
-    seed: u8,
-    list: &[u8],
-    at: usize,
-    bits: &mut [u8],
-    psdu: &mut [u8],
-) -> Result<usize, PayloadFault>
-    requires seed { seed < 2 }
-    requires places { length bits.old ≡ 8 * length psdu.old }
-    requires there { There (C.Carrier.mode mode.now) list.now at (8 * length psdu.old) }
-    ensures { PayloadReads (C.Carrier.mode mode.now) seed list.now at psdu.old psdu.new result }
-{
-    let spoilt = heard(mode.hear(list, at, bits))?;
-    let _ = unscramble(seed, bits, psdu);
-    Ok(spoilt)
-}
-
+// Reads the payload of a list after index `at`, and answers the count of its spoilt bits.
 pub fn read_payload<C: Carrier>(
     mode: &C,
     seed: u8,
@@ -96,7 +67,11 @@ pub fn read_payload<C: Carrier>(
     requires there { There (C.Carrier.mode mode.now) list.now at (8 * length psdu.old) }
     ensures { PayloadReads (C.Carrier.mode mode.now) seed list.now at psdu.old psdu.new result }
 {
-    let n = 8 * psdu.len();
-    let mut bits = [0u8; MAX_BITS];
-    hear_payload(mode, seed, list, at, &mut bits[0..n], psdu)
+    let mut buffer = [0; MAX_BITS];
+    let bits = &mut buffer[..8 * psdu.len()];
+    let spoilt = mode.hear(list, at, bits).map_err(part_fault)?;
+    let Ok(_) = unscramble(seed, bits, psdu) else {
+        unreachable()
+    };
+    Ok(spoilt)
 }

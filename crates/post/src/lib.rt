@@ -2,6 +2,7 @@
 #![tactic(auto)]
 
 mod calls;
+mod counting;
 mod hearing;
 pub mod post;
 mod sending;

@@ -1,130 +1,88 @@
 // The parts of a frame, written one after the other.
 ghost use Rattle.std.specs.Prelude.{◌≡◌, ◌*◌, ◌<◌, length};
 ghost use Rattle.bits.specs.Strings.{Bits};
-ghost use Rattle.frame.specs.Headers.{InRange, header as header_of, count as bits_of};
+ghost use Rattle.frame.specs.Headers.{InRange, header as header_of};
 ghost use Rattle.frame.specs.Answers.{fields_of};
 ghost use Rattle.frame.specs.Scrambler.{scrambled};
 ghost use Rattle.mode.specs.Modes.{Carried, stepped, sent, count as count_of};
-ghost use Rattle.post.specs.Parts.{Writable, written};
+ghost use Rattle.delivery.specs.Frames.{header_count as header_count_of, symbols as symbols_of};
+ghost use Rattle.post.specs.Parts.{frame_of, Writable};
 
+use crate::counting::{MAX_BITS, header_count};
 use frame::{Header, HeaderForm, scramble};
 use mode::Carrier;
-
-// The most bits of a header or a payload.
-const MAX_BITS: usize = 2112;
+use plan::RadioPlan;
 
 // Writes the symbols of a preamble, one for each bit.
-pub fn write_preamble<C: Carrier>(mode: &C, start: u8, bits: &[u8], symbols: &mut [u8])
+fn write_preamble<C: Carrier>(mode: &C, start: u8, bits: &[u8], symbols: &mut [u8])
     requires one { (C.Carrier.mode mode.now).map.w ≡ 1 }
     requires known { start < (C.Carrier.mode mode.now).map.q }
     requires valid { Bits (length symbols.old) bits.now }
     ensures { symbols.new ≡ stepped (C.Carrier.mode mode.now).map (length symbols.old) start bits.now }
 {
     let mut last = start;
-    for i in 0..symbols.len() {
-        let Ok(next) = mode.step(last, &bits[i..i + 1]) else {
+    for (i, symbol) in symbols.iter_mut().enumerate() {
+        let Ok(next) = mode.step(last, &[bits[i]]) else {
             unreachable()
         };
-        symbols[i] = next;
+        *symbol = next;
         last = next;
     }
 }
 
-// Writes the symbols of a header after the prior symbol; `bits` is room for its bits.
-fn carry_header<F: HeaderForm, C: Carrier>(
-    form: &F,
-    mode: &C,
-    header: &Header,
-    prior: u8,
-    bits: &mut [u8],
-    symbols: &mut [u8],
-)
-    requires ranges { InRange F.HeaderForm.form (fields_of header.now) }
-    requires size { Carried (bits_of F.HeaderForm.form) }
-    requires known { prior < (C.Carrier.mode mode.now).map.q }
-    requires places { length bits.old ≡ bits_of F.HeaderForm.form }
-    requires room { length symbols.old ≡ count_of (C.Carrier.mode mode.now) (bits_of F.HeaderForm.form) }
-    ensures { symbols.new ≡ sent (C.Carrier.mode mode.now) prior (header_of F.HeaderForm.form (fields_of header.now)) }
+// Writes the symbols of a header after the prior symbol.
+fn write_header<P: RadioPlan>(plan: &P, header: &Header, prior: u8, symbols: &mut [u8])
+    requires ranges { InRange (P.RadioPlan.plan plan.now).form (fields_of header.now) }
+    requires known { prior < (P.RadioPlan.plan plan.now).header.map.q }
+    requires room { length symbols.old ≡ header_count_of (P.RadioPlan.plan plan.now) }
+    ensures { symbols.new ≡ sent (P.RadioPlan.plan plan.now).header prior (header_of (P.RadioPlan.plan plan.now).form (fields_of header.now)) }
 {
-    let _ = form.write(header, bits);
-    let _ = mode.send(prior, bits, symbols);
+    let form = plan.form();
+    let mut buffer = [0; MAX_BITS];
+    let bits = &mut buffer[..form.bits_count()];
+    let Ok(_) = form.write(header, bits) else {
+        unreachable()
+    };
+    let Ok(_) = plan.header().send(prior, bits, symbols) else {
+        unreachable()
+    };
 }
 
-pub fn write_header<F: HeaderForm, C: Carrier>(
-    form: &F,
-    mode: &C,
-    header: &Header,
-    prior: u8,
-    symbols: &mut [u8],
-)
-    requires ranges { InRange F.HeaderForm.form (fields_of header.now) }
-    requires size { Carried (bits_of F.HeaderForm.form) }
-    requires known { prior < (C.Carrier.mode mode.now).map.q }
-    requires room { length symbols.old ≡ count_of (C.Carrier.mode mode.now) (bits_of F.HeaderForm.form) }
-    ensures { symbols.new ≡ sent (C.Carrier.mode mode.now) prior (header_of F.HeaderForm.form (fields_of header.now)) }
-{
-    let n = form.bits_count();
-    let mut bits = [0u8; MAX_BITS];
-    carry_header(form, mode, header, prior, &mut bits[0..n], symbols);
-}
-
-// Writes the symbols of a payload after the prior symbol; `bits` is room for its bits.
-fn carry_payload<C: Carrier>(
-    mode: &C,
-    seed: u8,
-    psdu: &[u8],
-    prior: u8,
-    bits: &mut [u8],
-    symbols: &mut [u8],
-)
-    requires seed { seed < 2 }
-    requires size { Carried (8 * length psdu.now) }
-    requires known { prior < (C.Carrier.mode mode.now).map.q }
-    requires places { length bits.old ≡ 8 * length psdu.now }
-    requires room { length symbols.old ≡ count_of (C.Carrier.mode mode.now) (8 * length psdu.now) }
-    ensures { symbols.new ≡ sent (C.Carrier.mode mode.now) prior (scrambled seed psdu.now) }
-{
-    let _ = scramble(seed, psdu, bits);
-    let _ = mode.send(prior, bits, symbols);
-}
-
-pub fn write_payload<C: Carrier>(mode: &C, seed: u8, psdu: &[u8], prior: u8, symbols: &mut [u8])
+// Writes the symbols of a payload after the prior symbol.
+fn write_payload<C: Carrier>(mode: &C, seed: u8, psdu: &[u8], prior: u8, symbols: &mut [u8])
     requires seed { seed < 2 }
     requires size { Carried (8 * length psdu.now) }
     requires known { prior < (C.Carrier.mode mode.now).map.q }
     requires room { length symbols.old ≡ count_of (C.Carrier.mode mode.now) (8 * length psdu.now) }
     ensures { symbols.new ≡ sent (C.Carrier.mode mode.now) prior (scrambled seed psdu.now) }
 {
-    let mut bits = [0u8; MAX_BITS];
-    carry_payload(
-        mode,
-        seed,
-        psdu,
-        prior,
-        &mut bits[0..8 * psdu.len()],
-        symbols,
-    );
+    let mut buffer = [0; MAX_BITS];
+    let bits = &mut buffer[..8 * psdu.len()];
+    let Ok(_) = scramble(seed, psdu, bits) else {
+        unreachable()
+    };
+    let Ok(_) = mode.send(prior, bits, symbols) else {
+        unreachable()
+    };
 }
 
-// Writes a frame; `head` is where its payload begins.
-pub fn write_frame<F: HeaderForm, C: Carrier>(
-    form: &F,
-    mode: &C,
-    payload: &C,
-    start: u8,
-    preamble: &[u8],
+// Writes a frame on a channel of the plan, its payload by this mode.
+pub fn write_frame<P: RadioPlan>(
+    plan: &P,
+    channel: u32,
+    mode: &P::Mode,
     header: &Header,
     psdu: &[u8],
-    head: usize,
     symbols: &mut [u8],
 )
-    requires { Writable F.HeaderForm.form (C.Carrier.mode mode.now) (C.Carrier.mode payload.now) start preamble.now (fields_of header.now) psdu.now head (length symbols.old) }
-    ensures { symbols.new ≡ written F.HeaderForm.form (C.Carrier.mode mode.now) (C.Carrier.mode payload.now) start preamble.now (fields_of header.now) psdu.now }
+    requires { Writable (P.RadioPlan.plan plan.now) (P.Mode.Carrier.mode mode.now) header.now psdu.now (length symbols.old) }
+    ensures { symbols.new ≡ symbols_of (P.RadioPlan.plan plan.now) channel (frame_of header.now psdu.now) }
 {
-    let end = symbols.len();
-    write_preamble(mode, start, preamble, &mut symbols[0..90]);
-    let prior = symbols[89];
-    write_header(form, mode, header, prior, &mut symbols[90..head]);
-    let prior = symbols[head - 1];
-    write_payload(payload, header.seed, psdu, prior, &mut symbols[head..end]);
+    let head = 90 + header_count(plan);
+    let (front, back) = symbols.split_at_mut(head);
+    let (first, second) = front.split_at_mut(90);
+    let preamble = plan.preamble(channel);
+    write_preamble(&plan.header(), plan.start(), &preamble, first);
+    write_header(plan, header, first[89], second);
+    write_payload(mode, header.seed, psdu, front[head - 1], back);
 }

@@ -1,9 +1,9 @@
-use Rattle.std.proofs.Common.{◌≡◌, ◌+◌, length, refl, ◌∙◌, arith}
+use Rattle.std.proofs.Common.{◌≡◌, ◌+◌, ◌++◌, length, drop, sym, refl, ap, ap₂, ◌∙◌, arith}
 use Rattle.std.proofs.lemmas.List.{length-take-le}
 use Rattle.std.proofs.ByRecursion.{All-from_get_or}
 use Rattle.frame.specs.Numbers.{Byte}
 use Rattle.delivery.specs.Frames.{Frame, Legal, symbols}
-use Rattle.post.proofs.Requests.{needed_is, writable, put}
+use Rattle.delivery.proofs.Cleans.{length_symbols}
 use Rattle.post.proofs.post.Post.send.Given.{Over}
 use Rattle.post.proofs.post.Post.send.Goals as goal
 use Rattle.post.proofs.post.Post.send.Goals.{After-count}
@@ -23,12 +23,11 @@ legal_frame g c =
       bytes = All-from_get_or Byte c.args.psdu.now 0 (λ i l. (c.type_inv.psdu i).fits);
     }
 
-needed : (g : Over) (c : After-count g) → 90 + c.count-head.result + c.count.result ≡ length (symbols (g.P.RadioPlan.plan c.args.self.now.plan) c.args.self.now.channel (frame g c))
-unfolding frame
+needed : (g : Over) (c : After-count g) → 90 + c.header_count.result + c.count.result ≡ length (symbols (g.P.RadioPlan.plan c.args.self.now.plan) c.args.self.now.channel (frame g c))
+unfolding frame legal_frame
 needed g c =
-    needed_is (g.P.RadioPlan.plan c.args.self.now.plan) (g.met.P.RadioPlan.lawful c.args.self.now.plan) c.args.self.now.channel (frame g c)
-    (g.P.Mode.Carrier.mode c.header-mode.result) (g.P.Mode.Carrier.mode c.in-Some.payload) g.P.Form.HeaderForm.form c.header-mode.ensures c.form-form.ensures c.in-Some.ensures
-    (legal_frame g c) c.bits_count.result c.count-head.result c.count.result c.bits_count.ensures c.count-head.ensures.value c.count.ensures.value
+    ap₂ (λ a b. 90 + a + b) c.header_count.ensures.value c.count.ensures.value
+    ∙ sym (length_symbols (g.P.RadioPlan.plan c.args.self.now.plan) (g.met.P.RadioPlan.lawful c.args.self.now.plan) c.args.self.now.channel (frame g c) (legal_frame g c))
 
 pub returns-then-symbols-needed : goal.returns-then-symbols-needed
 unfolding frame
@@ -51,16 +50,19 @@ returns-then-symbols-needed g c =
 pub write_frame-requires : goal.write_frame-requires
 unfolding frame
 write_frame-requires g c =
-    let k = (goal.at.write_frame-requires g c).After-count in
-    writable (g.P.RadioPlan.plan c.args.self.now.plan) (g.met.P.RadioPlan.lawful c.args.self.now.plan) c.args.self.now.channel (frame g k)
-    (g.P.Mode.Carrier.mode c.header-mode.result) (g.P.Mode.Carrier.mode c.in-Some.payload) g.P.Form.HeaderForm.form c.header-mode.ensures c.form-form.ensures c.in-Some.ensures
-    (legal_frame g k) c.bits_count.result c.count-head.result c.count.result c.bits_count.ensures c.count-head.ensures.value c.count.ensures.value
-    c.start.result c.preamble-preamble.result _ c.start.ensures c.preamble-preamble.ensures (length-take-le _ c.args.symbols.now (omega (arith, c.if-symbols-needed.false)) ∙ omega arith)
+    record {
+      legal = legal_frame g (goal.at.write_frame-requires g c).After-count;
+      carried = c.in-Some.ensures;
+      bytes = refl;
+      size_is =
+          length-take-le _ c.args.symbols.now (omega (arith, c.if-symbols-needed.false))
+          ∙ ap₂ (λ a b. 90 + a + b) c.header_count.ensures.value c.count.ensures.value;
+    }
 
 pub returns : goal.returns
 unfolding frame
 returns g c =
-    let k = (goal.at.returns g c).After-count in
+    let n = needed g (goal.at.returns g c).After-count in
     record {
       plan = refl;
       sends = (
@@ -68,11 +70,8 @@ returns g c =
         (omega arith, (g.P.Mode.Carrier.mode c.in-Some.payload, c.in-Some.ensures)),
         (omega arith, omega arith),
         c.if-symbols-needed.false,
-        needed g k,
-        put (g.P.RadioPlan.plan c.args.self.now.plan) (g.met.P.RadioPlan.lawful c.args.self.now.plan) c.args.self.now.channel (frame g k)
-            (g.P.Mode.Carrier.mode c.header-mode.result) (g.P.Mode.Carrier.mode c.in-Some.payload) g.P.Form.HeaderForm.form c.header-mode.ensures c.form-form.ensures c.in-Some.ensures
-            (legal_frame g k) c.bits_count.result c.count-head.result c.count.result c.bits_count.ensures c.count-head.ensures.value c.count.ensures.value
-            c.start.result c.preamble-preamble.result c.write_frame.new.symbols c.args.symbols.now c.start.ensures c.preamble-preamble.ensures c.write_frame.ensures,
+        n,
+        ap (λ zs. zs ++ drop (90 + c.header_count.result + c.count.result) c.args.symbols.now) c.write_frame.ensures,
         refl,
       );
     }
