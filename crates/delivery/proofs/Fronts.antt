@@ -1,6 +1,6 @@
 -- What the header of a heard list comes to: a fault, or fields and the mode of the payload. It comes to one of them.
 use Rattle.std.proofs.Common.{◌≡◌, ℕ, ◌+◌, ◌≤◌, List, length, replicate, Ok, Err, Result, ap, subst, arith}
-use lib.ListN.{length-replicate}
+use Rattle.std.proofs.lemmas.List.{length-replicate}
 use Rattle.frame.specs.declared.fault.FormFault.{FormFault}
 use Rattle.frame.specs.Headers.{Fields, Read, InRange}
 use Rattle.frame.specs.Headers as forms

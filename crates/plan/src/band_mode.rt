@@ -1,10 +1,15 @@
-// The modes of the bands: each has the name of its mapping and the count of its copies.
-// They are constants, which a proof looks into: the clause of a function of the copies would only repeat its body.
+// The modes of the bands, each with so many copies.
+ghost use Rattle.std.specs.Prelude.{◌≡◌};
+ghost use Rattle.block_code.specs.Bch.{bch63};
+ghost use Rattle.block_code.specs.Plain.{plain};
+ghost use Rattle.mapping.specs.Mappings.{dbpsk, dqpsk, d8psk, gmsk};
+ghost use Rattle.mode.specs.Chains.{chained};
+
 use block_code::{Bch63, Plain};
 use mapping::{D8psk, Dbpsk, Dqpsk, Gmsk};
-use mode::Copies;
 use mode::chain::Chain;
 use mode::choice::Choice;
+use mode::{Carrier, Copies};
 
 // Phases, over the code 63/51.
 type PhaseMode = Choice<Chain<Bch63, Dbpsk>, Choice<Chain<Bch63, Dqpsk>, Chain<Bch63, D8psk>>>;
@@ -15,50 +20,52 @@ type GmskMode = Choice<Chain<Bch63, Gmsk>, Chain<Plain, Gmsk>>;
 // What carries the headers and payloads of the bands.
 pub type BandMode = Choice<PhaseMode, GmskMode>;
 
-pub(crate) const DBPSK_4: BandMode = Choice::First(Choice::First(Chain {
-    code: Bch63,
-    copies: Copies::Four,
-    mapping: Dbpsk,
-}));
+pub(crate) fn dbpsk(copies: Copies) -> BandMode
+    ensures { ⟦<BandMode as Carrier>⟧.mode result ≡ chained bch63 copies dbpsk }
+{
+    Choice::First(Choice::First(Chain {
+        code: Bch63,
+        copies,
+        mapping: Dbpsk,
+    }))
+}
 
-pub(crate) const DBPSK_2: BandMode = Choice::First(Choice::First(Chain {
-    code: Bch63,
-    copies: Copies::Two,
-    mapping: Dbpsk,
-}));
+pub(crate) fn dqpsk(copies: Copies) -> BandMode
+    ensures { ⟦<BandMode as Carrier>⟧.mode result ≡ chained bch63 copies dqpsk }
+{
+    Choice::First(Choice::Second(Choice::First(Chain {
+        code: Bch63,
+        copies,
+        mapping: Dqpsk,
+    })))
+}
 
-pub(crate) const DBPSK_1: BandMode = Choice::First(Choice::First(Chain {
-    code: Bch63,
-    copies: Copies::One,
-    mapping: Dbpsk,
-}));
+pub(crate) fn d8psk(copies: Copies) -> BandMode
+    ensures { ⟦<BandMode as Carrier>⟧.mode result ≡ chained bch63 copies d8psk }
+{
+    Choice::First(Choice::Second(Choice::Second(Chain {
+        code: Bch63,
+        copies,
+        mapping: D8psk,
+    })))
+}
 
-pub(crate) const DQPSK_1: BandMode = Choice::First(Choice::Second(Choice::First(Chain {
-    code: Bch63,
-    copies: Copies::One,
-    mapping: Dqpsk,
-})));
+pub(crate) fn gmsk(copies: Copies) -> BandMode
+    ensures { ⟦<BandMode as Carrier>⟧.mode result ≡ chained bch63 copies gmsk }
+{
+    Choice::Second(Choice::First(Chain {
+        code: Bch63,
+        copies,
+        mapping: Gmsk,
+    }))
+}
 
-pub(crate) const D8PSK_1: BandMode = Choice::First(Choice::Second(Choice::Second(Chain {
-    code: Bch63,
-    copies: Copies::One,
-    mapping: D8psk,
-})));
-
-pub(crate) const GMSK_2: BandMode = Choice::Second(Choice::First(Chain {
-    code: Bch63,
-    copies: Copies::Two,
-    mapping: Gmsk,
-}));
-
-pub(crate) const GMSK_1: BandMode = Choice::Second(Choice::First(Chain {
-    code: Bch63,
-    copies: Copies::One,
-    mapping: Gmsk,
-}));
-
-pub(crate) const PLAIN_GMSK_1: BandMode = Choice::Second(Choice::Second(Chain {
-    code: Plain,
-    copies: Copies::One,
-    mapping: Gmsk,
-}));
+pub(crate) fn plain_gmsk(copies: Copies) -> BandMode
+    ensures { ⟦<BandMode as Carrier>⟧.mode result ≡ chained plain copies gmsk }
+{
+    Choice::Second(Choice::Second(Chain {
+        code: Plain,
+        copies,
+        mapping: Gmsk,
+    }))
+}

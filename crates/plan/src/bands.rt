@@ -3,12 +3,11 @@ ghost use Rattle.plan.specs.Bands.{plan_of};
 ghost use Rattle.plan.specs.Lawful.{band_lawful};
 
 use crate::band::Band;
-use crate::band_mode::{
-    BandMode, D8PSK_1, DBPSK_1, DBPSK_2, DBPSK_4, DQPSK_1, GMSK_1, GMSK_2, PLAIN_GMSK_1,
-};
+use crate::band_mode::{BandMode, d8psk, dbpsk, dqpsk, gmsk, plain_gmsk};
 use crate::preamble::preamble_bits;
 use crate::radio::RadioPlan;
 use frame::NarrowbandHeader;
+use mode::Copies::{Four, One, Two};
 
 impl RadioPlan for Band {
     type Mode = BandMode;
@@ -33,9 +32,9 @@ impl RadioPlan for Band {
 
     fn header(&self) -> BandMode {
         match self {
-            Band::Mhz402 | Band::Mhz863 | Band::Mhz902 | Band::Mhz950 => DBPSK_2,
-            Band::Mhz420 => GMSK_2,
-            Band::Mhz2360 | Band::Mhz2400 => DBPSK_4,
+            Band::Mhz402 | Band::Mhz863 | Band::Mhz902 | Band::Mhz950 => dbpsk(Two),
+            Band::Mhz420 => gmsk(Two),
+            Band::Mhz2360 | Band::Mhz2400 => dbpsk(Four),
         }
     }
 
@@ -57,17 +56,22 @@ impl RadioPlan for Band {
     fn payload(&self, rate: u32) -> Option<BandMode> {
         let modes = match self {
             Band::Mhz402 | Band::Mhz863 | Band::Mhz902 | Band::Mhz950 => [
-                Some(DBPSK_2),
-                Some(DBPSK_1),
-                Some(DQPSK_1),
-                Some(D8PSK_1),
+                Some(dbpsk(Two)),
+                Some(dbpsk(One)),
+                Some(dqpsk(One)),
+                Some(d8psk(One)),
             ],
-            Band::Mhz420 => [Some(GMSK_2), Some(GMSK_1), Some(PLAIN_GMSK_1), None],
+            Band::Mhz420 => [
+                Some(gmsk(Two)),
+                Some(gmsk(One)),
+                Some(plain_gmsk(One)),
+                None,
+            ],
             Band::Mhz2360 | Band::Mhz2400 => [
-                Some(DBPSK_4),
-                Some(DBPSK_2),
-                Some(DBPSK_1),
-                Some(DQPSK_1),
+                Some(dbpsk(Four)),
+                Some(dbpsk(Two)),
+                Some(dbpsk(One)),
+                Some(dqpsk(One)),
             ],
         };
         *modes.get(rate as usize)?

@@ -1,5 +1,5 @@
 -- What a heard list comes to, over the plan's own parts.
-use Rattle.std.proofs.Common.{◌≡◌, ℕ, ◌+◌, ◌-◌, ◌*◌, ◌<◌, ◌≤◌, Bool, true, false, cond, leb, List, [], ◌∷◌, ◌++◌, length, take, drop, replicate, Some, None, Ok, Err, Result, sym, refl, ap, ◌∙◌, subst, ap₂, arith, length-append}
+use Rattle.std.proofs.Common.{◌≡◌, ℕ, ◌+◌, ◌-◌, ◌*◌, ◌<◌, ◌≤◌, Bool, true, false, cond, leb, List, [], ◌∷◌, ◌++◌, length, take, drop, replicate, Some, Ok, Err, Result, sym, refl, ap, ◌∙◌, subst, ap₂, arith, length-append}
 use Rattle.std.proofs.lemmas.List.{take-append-drop, length-take-le}
 use Rattle.frame.specs.declared.header.Header.{Header}
 use Rattle.frame.specs.Headers.{Fields, Form, Read, InRange, Carried}
@@ -15,14 +15,11 @@ use Rattle.mode.specs.Parts.{Reach, There, spoilt_all, copies_of}
 use Rattle.mode.specs.Answers.{Faulty}
 use Rattle.mode.proofs.Whole.{padded_bits}
 use Rattle.mode.proofs.Room.{total_few}
-use Rattle.delivery.specs.declared.fault.HeaderFault.{HeaderFault}
-use Rattle.delivery.specs.declared.fault.HeaderFault.TheVariants.{Part as HeaderPart, Form as HeaderForm}
 use Rattle.delivery.specs.declared.fault.PayloadFault.{PayloadFault}
 use Rattle.delivery.specs.declared.fault.PayloadFault.TheVariants.{Length, Part as PayloadPart}
 use Rattle.delivery.specs.Plans.{Plan, Lawful, legal}
-use Rattle.delivery.specs.Frames.{Frame, fields, header_count, needed}
-use Rattle.delivery.specs.Calls.{Headed, HeaderFaulty, Said, PayloadFaulty, Delivers}
-use Rattle.delivery.proofs.Rates.{legal-carried}
+use Rattle.delivery.specs.Frames.{fields, header_count, needed}
+use Rattle.delivery.specs.Calls.{Said, PayloadFaulty, Delivers}
 use Rattle.post.specs.Heard.{HeaderReads, PayloadReads}
 
 -- ---- how many bits can be spoilt

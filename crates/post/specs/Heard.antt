@@ -1,7 +1,6 @@
 -- What the parts of a heard list are read as.
-use Rattle.std.specs.Prelude.{◌≡◌, ℕ, ◌*◌, Bool, List, length, Ok, Err, Result}
+use Rattle.std.specs.Prelude.{◌≡◌, ℕ, ◌*◌, List, length, Ok, Err, Result}
 use Rattle.std.specs.List.{AllByRecursion}
-use Rattle.frame.specs.declared.fault.FormFault.{FormFault}
 use Rattle.frame.specs.declared.fault.ReadHeaderFault.{ReadHeaderFault}
 use Rattle.frame.specs.declared.fault.ReadHeaderFault.TheVariants.{Call as BadRead, Form as Unformed}
 use Rattle.frame.specs.declared.header.Header.{Header}
@@ -10,7 +9,6 @@ use Rattle.frame.specs.Headers.{Form, Read}
 use Rattle.frame.specs.Headers as forms
 use Rattle.frame.specs.Answers.{fields_of}
 use Rattle.frame.specs.Scrambler.{scrambled}
-use Rattle.mode.specs.declared.fault.PartFault.{PartFault}
 use Rattle.mode.specs.declared.fault.HearFault.{HearFault}
 use Rattle.mode.specs.declared.fault.HearFault.TheVariants.{Part, Call}
 use Rattle.mode.specs.Modes.{Mode}

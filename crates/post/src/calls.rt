@@ -56,16 +56,15 @@ impl<P: RadioPlan> Post<P> {
         if rate > 3 {
             return Err(Fault::Rate);
         }
-        let Some(payload) = self.plan.payload(rate) else {
-            return Err(Fault::Rate);
-        };
-        if psdu.len() < 9 || psdu.len() > 264 {
+        let payload = self.plan.payload(rate).ok_or(Fault::Rate)?;
+        if !(9..=264).contains(&psdu.len()) {
             return Err(Fault::Psdu);
         }
         let needed = 90 + header_count(&self.plan) + count(&payload, 8 * psdu.len());
         if symbols.len() < needed {
             return Err(Fault::Buffer(needed));
         }
+        // the tests above bound what is cast
         let header = Header {
             rate: rate as u8,
             bytes: psdu.len(),

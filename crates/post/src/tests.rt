@@ -5,10 +5,8 @@ use std::test::Fail;
 
 // What a post hears of symbols that begin with a preamble.
 fn heard(post: &Post<Band>, symbols: &[u8], output: &mut [u8]) -> Result<Delivered, Fault> {
-    if symbols.len() < 89 {
-        return Err(Fault::List(0));
-    }
-    post.hear(&symbols[89..symbols.len()], output)
+    let list = symbols.get(89..).ok_or(Fault::List(0))?;
+    post.hear(list, output)
 }
 
 #[test]

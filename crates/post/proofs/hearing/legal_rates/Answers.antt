@@ -1,6 +1,4 @@
 use Rattle.std.proofs.Common.{rules, ◌≡◌, Bool, false, List, [], ◌∷◌, length, get_or, is_some, refl, ◌∙◌, arith}
-use Rattle.delivery.specs.Plans.{legal}
-use Rattle.post.proofs.hearing.legal_rates.Given.{Over}
 use Rattle.post.proofs.hearing.legal_rates.Goals as goal
 
 four : (ys : List Bool) → length ys ≡ 4 → ys ≡ get_or ys 0 false ∷ get_or ys 1 false ∷ get_or ys 2 false ∷ get_or ys 3 false ∷ []

@@ -1,4 +1,4 @@
-use Rattle.std.proofs.Common.{◌≡◌, ◌+◌, ◌-◌, List, ℕ, length, get_or, ap, ◌∙◌}
+use Rattle.std.proofs.Common.{◌≡◌, ◌+◌, ◌-◌, List, ℕ, length, ap}
 use Rattle.frame.specs.declared.header.Header.{Header}
 use Rattle.frame.specs.Answers.{fields_of}
 use Rattle.delivery.specs.Frames.{fields, preamble}

@@ -19,9 +19,14 @@ count-requires g c =
     carries (g.P.RadioPlan.plan c.args.self.now.plan) (g.met.P.RadioPlan.lawful c.args.self.now.plan) c.args.list.now c.in_ok-header.header c.in_ok-header.spoilt c.in_ok-header.ensures
 
 pub returns-then-list-needed : goal.returns-then-list-needed
-returns-then-list-needed g c =
-    ((omega arith, length_faulty (g.P.RadioPlan.plan c.args.self.now.plan) (g.met.P.RadioPlan.lawful c.args.self.now.plan) c.args.list.now c.in_ok-header.header c.in_ok-header.spoilt c.in_ok-header.ensures
-    c.header_count-head.result c.header_count-head.ensures.value c.if-list-head.false _ (rated g (goal.at.returns-then-list-needed g c).In-Some) c.count.result c.count.ensures.value c.if-list-needed.true), refl)
+returns-then-list-needed g c = (
+  (
+    omega arith,
+    length_faulty (g.P.RadioPlan.plan c.args.self.now.plan) (g.met.P.RadioPlan.lawful c.args.self.now.plan) c.args.list.now c.in_ok-header.header c.in_ok-header.spoilt c.in_ok-header.ensures
+        c.header_count-head.result c.header_count-head.ensures.value c.if-list-head.false _ (rated g (goal.at.returns-then-list-needed g c).In-Some) c.count.result c.count.ensures.value c.if-list-needed.true,
+  ),
+  refl,
+)
 
 pub slice_bounds-read_payload-end : goal.slice_bounds-read_payload-end
 slice_bounds-read_payload-end g c =

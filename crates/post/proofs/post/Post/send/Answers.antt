@@ -1,8 +1,9 @@
-use Rattle.std.proofs.Common.{◌≡◌, ◌+◌, ◌++◌, length, drop, sym, refl, ap, ap₂, ◌∙◌, arith}
+use Rattle.std.proofs.Common.{rules, Some, ◌≡◌, ◌+◌, length, sym, refl, ap₂, ◌∙◌, arith}
 use Rattle.std.proofs.lemmas.List.{length-take-le}
 use Rattle.std.proofs.ByRecursion.{All-from_get_or}
 use Rattle.frame.specs.Numbers.{Byte}
 use Rattle.delivery.specs.Frames.{Frame, Legal, symbols}
+use Rattle.delivery.specs.Calls.{Sized}
 use Rattle.delivery.proofs.Cleans.{length_symbols}
 use Rattle.post.proofs.post.Post.send.Given.{Over}
 use Rattle.post.proofs.post.Post.send.Goals as goal
@@ -12,14 +13,20 @@ use Rattle.post.proofs.post.Post.send.Goals.{After-count}
 frame : (g : Over) (c : After-count g) → Frame
 frame g c = record { rate = c.args.rate; burst = c.args.burst; seed = c.args.self.now.seed; psdu = c.args.psdu.now }
 
+sized : (g : Over) (c : After-count g) → Sized c.args.psdu.now
+sized g c = search rules
+
+rated : (g : Over) (c : After-count g) → (g.P.RadioPlan.plan c.args.self.now.plan).rate c.args.rate ≡ Some (g.P.Mode.Carrier.mode c.in_ok-payload.payload)
+rated g c = search rules
+
 legal_frame : (g : Over) (c : After-count g) → Legal (g.P.RadioPlan.plan c.args.self.now.plan) (frame g c)
 unfolding frame
 legal_frame g c =
     let L = g.met.P.RadioPlan.lawful c.args.self.now.plan in
     record {
-      mode = g.P.Mode.Carrier.mode c.in-Some.payload;
-      carried = c.in-Some.ensures;
-      ranges = record { rate = omega arith; low = omega arith; high = omega arith; burst = omega arith; seed = omega (arith, L.seeds, c.args.self.now.bit) };
+      mode = g.P.Mode.Carrier.mode c.in_ok-payload.payload;
+      carried = rated g c;
+      ranges = record { rate = omega arith; low = (sized g c).0; high = (sized g c).1; burst = omega arith; seed = omega (arith, L.seeds, c.args.self.now.bit) };
       bytes = All-from_get_or Byte c.args.psdu.now 0 (λ i l. (c.type_inv.psdu i).fits);
     }
 
@@ -32,15 +39,16 @@ needed g c =
 pub returns-then-symbols-needed : goal.returns-then-symbols-needed
 unfolding frame
 returns-then-symbols-needed g c =
+    let k = (goal.at.returns-then-symbols-needed g c).After-count in
     record {
       plan = refl;
       sends = (
         (
           omega arith,
-          (omega arith, (g.P.Mode.Carrier.mode c.in-Some.payload, c.in-Some.ensures)),
-          (omega arith, omega arith),
+          (omega arith, (_, rated g k)),
+          sized g k,
           c.if-symbols-needed.true,
-          needed g (goal.at.returns-then-symbols-needed g c).After-count,
+          needed g k,
         ),
         refl,
         refl,
@@ -50,9 +58,10 @@ returns-then-symbols-needed g c =
 pub write_frame-requires : goal.write_frame-requires
 unfolding frame
 write_frame-requires g c =
+    let k = (goal.at.write_frame-requires g c).After-count in
     record {
-      legal = legal_frame g (goal.at.write_frame-requires g c).After-count;
-      carried = c.in-Some.ensures;
+      legal = legal_frame g k;
+      carried = rated g k;
       bytes = refl;
       size_is =
           length-take-le _ c.args.symbols.now (omega (arith, c.if-symbols-needed.false))
@@ -62,16 +71,16 @@ write_frame-requires g c =
 pub returns : goal.returns
 unfolding frame
 returns g c =
-    let n = needed g (goal.at.returns g c).After-count in
+    let k = (goal.at.returns g c).After-count in
     record {
       plan = refl;
       sends = (
         omega arith,
-        (omega arith, (g.P.Mode.Carrier.mode c.in-Some.payload, c.in-Some.ensures)),
-        (omega arith, omega arith),
+        (omega arith, (_, rated g k)),
+        sized g k,
         c.if-symbols-needed.false,
-        n,
-        ap (λ zs. zs ++ drop (90 + c.header_count.result + c.count.result) c.args.symbols.now) c.write_frame.ensures,
+        needed g k,
+        rw c.write_frame.ensures refl,
         refl,
       );
     }
