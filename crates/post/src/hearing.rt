@@ -7,10 +7,9 @@ ghost use Rattle.delivery.specs.Plans.{legal};
 ghost use Rattle.delivery.specs.Frames.{header_count as header_count_of};
 ghost use Rattle.post.specs.Heard.{NoCall, NoBadRead, HeaderReads, PayloadReads};
 
-use crate::counting::MAX_BITS;
 use delivery::{HeaderFault, PayloadFault};
 use frame::{FormFault, Header, HeaderForm, ReadHeaderFault, unscramble};
-use mode::{Carrier, HearFault, PartFault};
+use mode::{Carrier, HearFault, MAX_BITS, PartFault};
 use plan::RadioPlan;
 
 // What is at fault in a part, where the call was not a bad one.

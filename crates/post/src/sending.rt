@@ -8,9 +8,9 @@ ghost use Rattle.mode.specs.Modes.{Carried, stepped, sent, count as count_of};
 ghost use Rattle.delivery.specs.Frames.{header_count as header_count_of, symbols as symbols_of};
 ghost use Rattle.post.specs.Parts.{frame_of, Writable};
 
-use crate::counting::{MAX_BITS, header_count};
+use crate::counting::header_count;
 use frame::{Header, HeaderForm, scramble};
-use mode::Carrier;
+use mode::{Carrier, MAX_BITS};
 use plan::RadioPlan;
 
 // Writes the symbols of a preamble, one for each bit.
