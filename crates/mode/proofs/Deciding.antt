@@ -1,9 +1,9 @@
 -- Deciding bits from their copies, counting those that are spoilt, and the lowest symbol, one element after the other.
-use Rattle.std.proofs.Common.{◌≡◌, ℕ, zero, suc, ◌+◌, ◌-◌, ◌*◌, ◌<◌, ◌≤◌, ◌⊎◌, min, cond, eqb, fold, List, [], ◌∷◌, ◌++◌, length, get_or, take, drop, set, sym, refl, ap, ◌∙◌, inl, inr, arith}
+use Rattle.std.proofs.Common.{◌≡◌, ℕ, zero, suc, ◌+◌, ◌-◌, ◌*◌, ◌<◌, ◌≤◌, ◌⊎◌, min, cond, eqb, leb, fold, List, [], ◌∷◌, ◌++◌, length, get_or, take, drop, set, sym, refl, ap, ◌∙◌, inl, inr, mul-le-mul_left, arith}
 use Rattle.std.specs.List.{count_by}
 use Rattle.std.proofs.Math.Bool.{not}
 use Rattle.std.proofs.lemmas.List.Recursion.{is_count_by}
-use Rattle.std.proofs.lemmas.List.{at_drop_more, drop-drop, length-map, take-map, drop-map, append_assoc, take_more_set, length-set}
+use Rattle.std.proofs.lemmas.List.{drop-drop, length-append, length-map, map-append, take-map, drop-map, take_at, drop_at, append_assoc, nil_from_length, take_more_set, length-set}
 use Rattle.std.proofs.lemmas.Bool.{eq-eqb, ne_eqb, le-leb, lt-leb, cases_eq, cases_lt}
 use Rattle.mode.specs.declared.air_bit.AirBit.{AirBit}
 use Rattle.mode.specs.Copying.{differing, majority, decided, spoilt}
@@ -59,17 +59,47 @@ decided_more s es ws i r h l e =
     rw (take_more_set ws i r l, n, drop-drop, ← e) (append_assoc (take i ws) (r ∷ []) (decided s (length ws - (i + 1)) (drop (s * i + s) es))) in
     rw (length-set, a) (z ∙ h)
 
-pub spoilt_yes : (s : ℕ) (ws es : List ℕ) (i a : ℕ) → i < length ws → s ≤ 2 * differing (get_or ws i 0) (take s (drop a es))
-    → spoilt s (drop i ws) (drop a es) ≡ 1 + spoilt s (drop (i + 1) ws) (drop (a + s) es)
-spoilt_yes s ws es i a l h = at_drop_more (λ us. spoilt s us (drop a es)) ws i 0 l ∙ rw (le-leb s (2 * differing (get_or ws i 0) (take s (drop a es))) h, drop-drop)
+-- n bits are counted as spoilt, and the bits of rest are left with the copies of each
+pub record Counted (s : ℕ) (ws : List ℕ) (hs : List AirBit) (n : ℕ) (rest : List ℕ) (more : List AirBit) (size : ℕ) : Type 0 where
+  pub so_far : n + spoilt s rest (bits_of more) ≡ spoilt s ws (bits_of hs)
+  pub few : n + length rest ≤ length ws
+  pub row : size ≡ s
+  pub long : length more ≡ s * length rest
 
-pub spoilt_no : (s : ℕ) (ws es : List ℕ) (i a : ℕ) → i < length ws → 2 * differing (get_or ws i 0) (take s (drop a es)) < s
-    → spoilt s (drop i ws) (drop a es) ≡ spoilt s (drop (i + 1) ws) (drop (a + s) es)
-spoilt_no s ws es i a l h = at_drop_more (λ us. spoilt s us (drop a es)) ws i 0 l ∙ rw (lt-leb s (2 * differing (get_or ws i 0) (take s (drop a es))) h, drop-drop) (omega arith)
+module _ (s : ℕ) (ws : List ℕ) (hs : List AirBit) (n : ℕ) (rest : List ℕ) (more : List AirBit) (size : ℕ) (h : Counted s ws hs n rest more size) where
+  module _ (b a : ℕ) (rest' : List ℕ) (ys more' : List AirBit) (re : rest ≡ b ∷ rest') (me : more ≡ ys ++ more') (l : length ys ≡ size) (e : a ≡ differing b (bits_of ys)) where
+    own_long : length (bits_of ys) ≡ s
+    own_long = length_bits ys ∙ l ∙ h.row
 
--- what the code counts in the copies of a bit
-pub against_is : (b a s r : ℕ) (hs : List AirBit) → r ≡ differing b (bits_of (take (a + s - a) (drop a hs))) → r ≡ differing b (take s (drop a (bits_of hs)))
-against_is b a s r hs e = e ∙ ap (differing b) (bits_part hs a s)
+    pub against_few : a ≤ s
+    against_few = omega (arith, e, differing-le b (bits_of ys), own_long)
+
+    one_more : spoilt s rest (bits_of more) ≡ cond (leb s (2 * a)) 1 0 + spoilt s rest' (bits_of more')
+    one_more =
+        let q : bits_of more ≡ bits_of ys ++ bits_of more' = ap bits_of me ∙ map-append (λ h. h.bit) ys more' in
+        rw (re, q, take_at (bits_of ys) (bits_of more') s own_long, drop_at (bits_of ys) (bits_of more') s own_long, e) refl
+
+    counted_more : (m : ℕ) → m ≡ n + cond (leb s (2 * a)) 1 0 → m ≤ n + 1 → Counted s ws hs m rest' more' size
+    counted_more m o k = record {
+      so_far = omega (arith, h.so_far, one_more);
+      few = omega (arith, h.few, ap length re);
+      row = h.row;
+      long = omega (arith, h.long, ap length me, length-append ys more', l, h.row, ap (λ us. s * length us) re);
+    }
+
+    pub counted_yes : s - a ≤ a → Counted s ws hs (n + 1) rest' more' size
+    counted_yes k = counted_more (n + 1) (rw (le-leb s (2 * a) (omega arith)) refl) (omega arith)
+
+    pub counted_no : a < s - a → Counted s ws hs n rest' more' size
+    counted_no k = counted_more n (rw (lt-leb s (2 * a) (omega arith)) (omega arith)) (omega arith)
+
+  pub counted_all : (length rest ≡ 0) ⊎ (length more < size) → n ≡ spoilt s ws (bits_of hs)
+  counted_all o =
+      let none : length rest ≡ 0 = elim o [
+        | inl e ↦ e
+        | inr l ↦ elim (cases_lt 0 (length rest)) [ inl b ↦ absurd (omega (arith, h.long, h.row, mul-le-mul_left s b)) | inr b ↦ omega arith ]
+      ] in
+      omega (arith, h.so_far, ap (λ us. spoilt s us (bits_of more)) (nil_from_length rest none))
 
 -- the lowest symbol, as the code folds it
 abbrev pub lower : ℕ → AirBit → ℕ

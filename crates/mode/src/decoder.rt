@@ -23,7 +23,7 @@ use block_code::{BlockCode, Shortened};
 use mapping::Mapping;
 
 // Reads the bits of so many symbols after index `at` of the list, or tells the first fault.
-// List, index and count stay apart: two functions share them, and a struct of them would lengthen each clause.
+// List, index and count stay apart: in a struct they would only lengthen the clauses.
 fn read_part<M: Mapping>(
     mapping: &M,
     list: &[u8],
@@ -170,11 +170,10 @@ fn spoilt(copies: Copies, word: &[u8], heard: &[AirBit]) -> usize
     ensures { result ≡ spoilt_of (copy_count copies) word.now (bits_of heard.now) }
 {
     let s = copies.count();
-    // Not `filter` and `count` over the chunks: that chain found no proof.
+    // Not `filter` and `count`: that chain found no proof.
     let mut n = 0;
-    for (i, bit) in word.iter().enumerate() {
-        let at = s * i;
-        let against = differing(*bit, &heard[at..at + s]);
+    for (bit, own) in word.iter().zip(heard.chunks_exact(s)) {
+        let against = differing(*bit, own);
         if against >= s - against {
             n += 1;
         }

@@ -44,8 +44,8 @@ fn interleaves_and_back(rt: HostRuntime) -> Result<(), Fail> {
 // Replaces some symbols of a list.
 fn change(list: &mut [u8], changes: &[(usize, u8)]) {
     for (i, symbol) in changes {
-        if *i < list.len() {
-            list[*i] = *symbol;
+        if let Some(place) = list.get_mut(*i) {
+            *place = *symbol;
         }
     }
 }

@@ -1,9 +1,8 @@
-use Rattle.std.proofs.Common.{◌≡◌, ◌+◌, ◌*◌, ◌≤◌, drop}
-use Rattle.mode.specs.Copying.{spoilt}
-use Rattle.mode.specs.Heard.{bits_of}
+use Rattle.std.specs.Iterator.Adapters.{zip_first, zip_second}
+use Rattle.std.specs.Slice.Iter.{iter_rest, chunks_exact_rest, chunks_exact_size}
+use Rattle.mode.proofs.Deciding.{Counted}
 use Rattle.mode.proofs.decoder.spoilt.Given as goal
 
-abbrev pub invariant-loop-i : goal.invariant-loop-i
-invariant-loop-i l =
-    (l.n + spoilt l.s (drop l.i l.word) (drop (l.s * l.i) (bits_of l.heard)) ≡ spoilt l.s l.word (bits_of l.heard))
-    × (l.n ≤ l.i)
+abbrev pub invariant-loop-bit : goal.invariant-loop-bit
+invariant-loop-bit l =
+    Counted l.s l.word l.heard l.n (iter_rest (zip_first l.bit-iterator)) (chunks_exact_rest (zip_second l.bit-iterator)) (chunks_exact_size (zip_second l.bit-iterator))
