@@ -8,4 +8,4 @@ pub unreachable-requires-in_default-send : goal.unreachable-requires-in_default-
 unreachable-requires-in_default-send g c =
     c.in_default-send.ensures.0
     (sendable _ (8 * length c.args.psdu.now) c.args.prior c.scramble.new.bits c.args.symbols.now
-    (subst (Bits (8 * length c.args.psdu.now)) (sym c.in-Ok.ensures.3) (scrambled_bits c.args.seed c.args.psdu.now)) c.requires.size c.requires.known c.requires.room)
+    (subst (Bits (8 * length c.args.psdu.now)) (sym c.in-Ok.ensures.3) (scrambled_bits _ c.args.psdu.now)) c.requires.size c.requires.known c.requires.room)

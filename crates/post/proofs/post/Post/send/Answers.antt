@@ -1,4 +1,4 @@
-use Rattle.std.proofs.Common.{rules, Some, ◌≡◌, ◌+◌, length, sym, refl, ap₂, ◌∙◌, arith}
+use Rattle.std.proofs.Common.{rules, Some, ◌≡◌, ℕ, ◌+◌, List, ◌++◌, length, drop, sym, refl, ap, ap₂, ◌∙◌, arith}
 use Rattle.std.proofs.lemmas.List.{length-take-le}
 use Rattle.std.proofs.ByRecursion.{All-from_get_or}
 use Rattle.frame.specs.Numbers.{Byte}
@@ -8,6 +8,10 @@ use Rattle.delivery.proofs.Cleans.{length_symbols}
 use Rattle.post.proofs.post.Post.send.Given.{Over}
 use Rattle.post.proofs.post.Post.send.Goals as goal
 use Rattle.post.proofs.post.Post.send.Goals.{After-count}
+
+-- the frame's symbols at the front of the buffer
+put : (n : ℕ) (us vs before : List ℕ) → us ≡ vs → us ++ drop n before ≡ vs ++ drop n before
+put n us vs before e = ap (λ zs. zs ++ drop n before) e
 
 -- the frame of the request
 frame : (g : Over) (c : After-count g) → Frame
@@ -63,9 +67,12 @@ write_frame-requires g c =
       legal = legal_frame g k;
       carried = rated g k;
       bytes = refl;
-      size_is =
-          length-take-le _ c.args.symbols.now (omega (arith, c.if-symbols-needed.false))
-          ∙ ap₂ (λ a b. 90 + a + b) c.header_count.ensures.value c.count.ensures.value;
+      size_is = omega (
+        arith,
+        length-take-le (90 + c.header_count.result + c.count.result) c.args.symbols.now (omega (arith, c.if-symbols-needed.false)),
+        c.header_count.ensures.value,
+        c.count.ensures.value,
+      );
     }
 
 pub returns : goal.returns
@@ -80,7 +87,8 @@ returns g c =
         sized g k,
         c.if-symbols-needed.false,
         needed g k,
-        rw c.write_frame.ensures refl,
+        put (90 + c.header_count.result + c.count.result) c.write_frame.new.symbols
+            (symbols (g.P.RadioPlan.plan c.args.self.now.plan) c.args.self.now.channel (frame g k)) c.args.symbols.now c.write_frame.ensures,
         refl,
       );
     }
