@@ -59,7 +59,7 @@ impl<C: RoomyCode, M: Mapping> Chain<C, M> {
         ensures { coded.new ≡ padded_of (⟦<Self as Carrier>⟧.mode self.now) message.now.bits.now }
     {
         let plain = self.word_bits(message.count());
-        put_words(&self.code, message.bits, &mut coded[0..plain]);
+        put_words(&self.code, message, &mut coded[0..plain]);
         coded[plain..].fill(0);
     }
 

@@ -6,10 +6,11 @@ ghost use Rattle.mode.specs.Shares.{words as words_of, unsents};
 ghost use Rattle.mode.specs.Orders.{interleaved};
 ghost use Rattle.mode.specs.Copying.{spread as spread_of};
 ghost use Rattle.mode.specs.Chains.{copy_count};
-ghost use Rattle.mode.specs.Modes.{Carried, coded, stepped};
+ghost use Rattle.mode.specs.Modes.{coded, stepped};
 
 use crate::copies::Copies;
 use crate::interleaver::interleave;
+use crate::message::Message;
 use crate::sharing::{share, word_count};
 use block_code::{BlockCode, Shortened};
 use mapping::Mapping;
@@ -35,12 +36,11 @@ fn put_word<C: BlockCode>(code: &C, unsent: usize, message: &[u8], output: &mut 
 }
 
 // Writes the words that carry the bits.
-pub(crate) fn put_words<C: BlockCode>(code: &C, bits: &[u8], output: &mut [u8])
-    requires carried { Carried (length bits.now) }
-    requires bits { Bits (length bits.now) bits.now }
-    requires room { length output.old ≡ length bits.now + words_of (C.BlockCode.code code.now).k (length bits.now) * (C.BlockCode.code code.now).p }
-    ensures { output.new ≡ coded (C.BlockCode.code code.now) (unsents (C.BlockCode.code code.now).k (length bits.now)) bits.now }
+pub(crate) fn put_words<C: BlockCode>(code: &C, message: &Message, output: &mut [u8])
+    requires { length output.old ≡ length message.now.bits.now + words_of (C.BlockCode.code code.now).k (length message.now.bits.now) * (C.BlockCode.code code.now).p }
+    ensures { output.new ≡ coded (C.BlockCode.code code.now) (unsents (C.BlockCode.code code.now).k (length message.now.bits.now)) message.now.bits.now }
 {
+    let bits = message.bits;
     let k = code.message_bits();
     let p = code.parity_bits();
     // Places, since of what is written to parts by `split_at_mut` nothing is known after the loop.

@@ -17,10 +17,10 @@ fits g c =
 pub slice_bounds-put_words-end : goal.slice_bounds-put_words-end
 slice_bounds-put_words-end g c = omega (arith, fits g (goal.at.slice_bounds-put_words-end g c).After-word_bits-plain)
 
-pub put_words-requires-clause-room : goal.put_words-requires-clause-room
-put_words-requires-clause-room g c =
+pub put_words-requires : goal.put_words-requires
+put_words-requires g c =
     let m = chained (g.C.BlockCode.code c.args.self.now.code) c.args.self.now.copies g.M.Mapping.map in
-    let f = fits g (goal.at.put_words-requires-clause-room g c).After-word_bits-plain in
+    let f = fits g (goal.at.put_words-requires g c).After-word_bits-plain in
     simp length-take (omega (arith, c.word_bits-plain.ensures, ap (plain m) c.count.ensures, plain_adds m (length c.args.message.now.bits.now)))
 
 pub returns : goal.returns
