@@ -6,7 +6,7 @@ ghost use Rattle.std.proofs.Props.{props};
 
 use bits::{BadCall, are_bits};
 
-// The most bits that are carried at a time.
+// The most bits that are carried at a time. Buffers for them are fixed, since the library crates use no heap.
 pub const MAX_BITS: usize = 2112;
 
 // A count of bits that is carried at a time.

@@ -7,9 +7,6 @@ use frame::HeaderForm;
 use mode::Carrier;
 use plan::RadioPlan;
 
-// The most bits of a header or a payload. Buffers for them are fixed, since the library crates use no heap.
-pub const MAX_BITS: usize = 2112;
-
 // How many symbols n bits take, which the mode carries.
 pub fn count<C: Carrier>(mode: &C, n: usize) -> usize
     requires { Carried n }
