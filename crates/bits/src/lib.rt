@@ -54,6 +54,7 @@ pub fn put_bits(number: u64, places: &mut [u8])
     for (i, place) in places.iter_mut().enumerate() {
         let shift = count - 1 - i;
         let bit = if shift < 64 { number >> shift & 1 } else { 0 };
+        // one bit: the cast loses nothing
         *place = bit as u8;
     }
 }

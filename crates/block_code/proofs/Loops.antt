@@ -1,9 +1,9 @@
 -- The steps of the loops.
-use Rattle.std.proofs.Common.{◌≡◌, ℕ, zero, suc, ◌+◌, ◌*◌, ◌/◌, ◌%◌, ◌<◌, T, List, [], ◌∷◌, ◌++◌, length, refl, get_or, drop, sym, ap, ◌∙◌, ap₂, arith, eqb→eq}
+use Rattle.std.proofs.Common.{◌≡◌, ℕ, zero, suc, ◌+◌, ◌*◌, ◌/◌, ◌%◌, ◌<◌, T, List, [], ◌∷◌, ◌++◌, length, refl, get_or, sym, ap, ◌∙◌, ap₂, arith, eqb→eq, fold, ◌≢◌}
 use Rattle.std.specs.Prelude.{bit_and, bit_xor, nat_eq, slice_index}
 use Rattle.std.specs.Int.Bits.{xor_zero_r}
 use Rattle.std.proofs.lemmas.Nat.{and_mask, xor_comm, xor_lt}
-use Rattle.std.proofs.lemmas.List.{append_assoc, at_drop_more}
+use Rattle.std.proofs.lemmas.List.{append_assoc}
 use Rattle.std.specs.List.{AllByRecursion}
 use Rattle.bits.specs.Strings.{Bit}
 use Rattle.block_code.specs.declared.bch63.TheConstants.{POWERS}
@@ -60,23 +60,26 @@ divided-lt r b = xor_lt 12 ((2 * r) % 4096) (pick (bit_xor (r / 2048 % 2) b) 133
     small zero = omega arith
     small (suc x) = omega arith
 
-pub remainder_more : (xs : List ℕ) (i r s : ℕ) → i < length xs → s ≡ divided r (get_or xs i 0) → remainder r (drop i xs) ≡ remainder s (drop (i + 1) xs)
-remainder_more xs i r s h e = at_drop_more (remainder r) xs i 0 h ∙ ap (λ x. remainder x (drop (i + 1) xs)) (sym e)
+pub folded : (r : ℕ) (xs : List ℕ) → fold divided r xs ≡ remainder r xs
+folded r [] = refl
+folded r (x ∷ xs) = folded (divided r x) xs
 
-module _ (r b : ℕ) (h : r < 4096) (k : b < 2) where
+picked : (x c : ℕ) → x ≢ 0 → c ≡ pick x c
+picked zero c n = absurd (n refl)
+picked (suc x) c n = refl
+
+module _ (r b : ℕ) where
   top_is : bit_xor (bit_and (r / 2048) 1) b ≡ bit_xor (r / 2048 % 2) b
   top_is = ap (λ x. bit_xor x b) (and_mask (r / 2048) 1)
 
   low_is : bit_and ((r * 2) % 65536) 4095 ≡ (2 * r) % 4096
   low_is = and_mask ((r * 2) % 65536) 12 ∙ omega arith
 
-  pub divided_one : bit_xor (bit_and (r / 2048) 1) b ≡ 1 → bit_xor (bit_and ((r * 2) % 65536) 4095) 1337 ≡ divided r b
+  pub divided_set : bit_xor (bit_and (r / 2048) 1) b ≢ 0 → bit_xor (bit_and ((r * 2) % 65536) 4095) 1337 ≡ divided r b
   unfolding divided
-  divided_one e = ap₂ (λ x y. bit_xor x (pick y 1337)) low_is (sym e ∙ top_is)
+  divided_set n = ap₂ bit_xor low_is (picked (bit_xor (r / 2048 % 2) b) 1337 (λ z. n (top_is ∙ z)))
 
-  pub divided_none : (bit_xor (bit_and (r / 2048) 1) b ≡ 1 → ⊥) → bit_and ((r * 2) % 65536) 4095 ≡ divided r b
+  pub divided_clear : bit_xor (bit_and (r / 2048) 1) b ≡ 0 → bit_and ((r * 2) % 65536) 4095 ≡ divided r b
   unfolding divided
-  divided_none ne =
-      let n : bit_xor (r / 2048 % 2) b < 2 = xor_lt 1 (r / 2048 % 2) b (omega arith) k in
-      let z : 0 ≡ bit_xor (r / 2048 % 2) b = omega (arith, ne, top_is) in
-      sym (xor_zero_r (bit_and ((r * 2) % 65536) 4095)) ∙ ap₂ (λ x y. bit_xor x (pick y 1337)) low_is z
+  divided_clear z =
+      sym (xor_zero_r (bit_and ((r * 2) % 65536) 4095)) ∙ ap₂ (λ x y. bit_xor x (pick y 1337)) low_is (sym z ∙ top_is)

@@ -1,7 +1,7 @@
 ghost use Rattle.std.specs.Prelude.{◌≡◌, ℕ, ◌<◌, MatchOption};
 ghost use Rattle.std.specs.List.{AllByRecursion};
 ghost use Rattle.bits.specs.Strings.{Bit, Bits};
-ghost use Rattle.block_code.specs.Bch.{bch63 as the_code, remainder as remainder_of, power, cubed, first, third, Fits1, Fits2, Divides, Sums, Vanish, Only};
+ghost use Rattle.block_code.specs.Bch.{bch63 as the_code, divided, remainder as remainder_of, power, cubed, first, third, Fits1, Fits2, Divides, Sums, Vanish, Only};
 ghost use Rattle.block_code.specs.Codes.{MinimumDistance};
 ghost use Rattle.std.proofs.Common.{arith};
 ghost use Rattle.block_code.specs.Words.{length-parity};
@@ -101,20 +101,20 @@ impl BlockCode for Bch63 {
     }
 }
 
+// The remainder with one more bit of the message.
+fn divide_in(r: u16, bit: u8) -> u16
+    ensures { result ≡ divided r bit }
+{
+    let top = (r >> 11) & 1 ^ u16::from(bit);
+    let up = (r << 1) & 0xfff;
+    if top != 0 { up ^ 0b0101_0011_1001 } else { up }
+}
+
 // The remainder of D^12 times the message by the generator.
 fn remainder(message: &[u8]) -> u16
-    requires { AllByRecursion Bit message.now }
     ensures { result ≡ remainder_of 0 message.now }
 {
-    let mut r: u16 = 0;
-    for b in message {
-        let top = (r >> 11) & 1 ^ u16::from(*b);
-        r = (r << 1) & 0xfff;
-        if top == 1 {
-            r ^= 0b0101_0011_1001;
-        }
-    }
-    r
+    message.iter().fold(0, |r, bit| divide_in(r, *bit))
 }
 
 // D^i, reduced.
@@ -160,6 +160,7 @@ fn single(s: u8, t: u8) -> Option<usize>
 fn double(s: u8, t: u8) -> Option<(usize, usize)>
     ensures { MatchOption result ((k l : ℕ) → k < 63 → l < k → Fits2 s t k l → ⊥) (λ p. (p.0 < 63) × (p.1 < p.0) × Fits2 s t p.0 p.1) }
 {
+    // a `for`, since the chain with `find_map` found no proof
     for i in 0..63 {
         let (p, c) = (power_of(i), cube_of(i));
         if let Some(j) = (0..i).find(|j| p ^ power_of(*j) == s && c ^ cube_of(*j) == t) {

@@ -12,6 +12,7 @@ pub enum CorrectFault {
     NoWordNear,
 }
 
+// By hand, since a derived `From` has no contract.
 impl From<BadCall> for CorrectFault {
     ghost from_gives = { λ e r. r ≡ CorrectFault.Call e };
 

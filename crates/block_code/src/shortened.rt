@@ -92,6 +92,7 @@ fn after_zeros(zeros: usize, bits: &[u8]) -> [u8; 63]
     requires { zeros + length bits.now ≤ 63 }
     ensures { result ≡ (replicate zeros 0 ++ bits.now) ++ replicate (63 - (zeros + length bits.now)) 0 }
 {
+    // there is no heap: room for the longest word
     let mut full = [0u8; 63];
     full[zeros..zeros + bits.len()].copy_from_slice(bits);
     full

@@ -1,4 +1,5 @@
-// What a hearing delivers, beside the PSDU at the front of the output.
+// What a hearing delivers, beside the PSDU at the front of the output. It is flat, and no header with a count, since
+// callers read these fields.
 #[derive(Clone, Copy, PartialEq, Eq, Debug)]
 pub struct Delivered {
     pub rate: u8,

@@ -43,6 +43,7 @@ pub enum Fault {
     Payload(PayloadFault),
 }
 
+// By hand, as all `From` of faults here, since a derived `From` has no contract.
 impl From<PartFault> for HeaderFault {
     ghost from_gives = { λ e r. r ≡ HeaderFault.Part e };
 

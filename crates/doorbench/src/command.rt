@@ -79,6 +79,7 @@ where
 
 // A size: a number of 32 bits.
 fn size(words: &mut SplitWhitespace<'_>) -> Result<usize, Unclear> {
+    // 32 bits fit; `From` is not there for them
     Ok(value::<u32>(words)? as usize)
 }
 

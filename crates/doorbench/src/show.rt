@@ -33,6 +33,7 @@ pub struct Refusal {
     place: usize,
 }
 
+// Three of them, since number, layer and place are methods of each fault and no trait's.
 impl From<BadCall> for Refusal {
     fn from(bad: BadCall) -> Refusal {
         Refusal {

@@ -104,6 +104,7 @@ impl HeaderForm for NarrowbandHeader {
         }
         put_low_bits(header.rate, &mut out[0..3]);
         out[3] = 0;
+        // at most 255, by `in_range`
         put_low_bits((header.bytes - 9) as u8, &mut out[4..12]);
         out[12] = 0;
         out[13] = header.burst;

@@ -34,6 +34,7 @@ impl Keystream {
         let past = self.register;
         let x = (past >> 1 ^ past >> 11 ^ past >> 12 ^ past >> 13) & 1;
         self.register = (past << 1 | x) & 0x3fff;
+        // one bit
         x as u8
     }
 
@@ -81,6 +82,7 @@ pub fn unscramble(seed: u8, bits: &[u8], psdu: &mut [u8]) -> Result<(), BadCall>
         return Err(BadCall);
     }
     let mut keystream = Keystream::new(seed);
+    // by index: after a loop over `zip` with `iter_mut` a proof knows nothing of the bytes
     for (i, eight) in bits.chunks_exact(8).enumerate() {
         psdu[i] = number_of(eight) ^ keystream.next_byte();
     }

@@ -97,6 +97,7 @@ impl PhaseSteps for D8psk {
 impl<T: PhaseSteps> Mapping for T {
     const W: usize = T::BITS;
 
+    // `From` is no constant function
     const Q: usize = PHASES as usize;
 
     ghost W = { T.BITS };
@@ -116,6 +117,7 @@ impl<T: PhaseSteps> Mapping for T {
             return Err(BadCall);
         }
         let number = number_of(bits)?;
+        // at most three bits: the cast loses nothing
         Ok((prior + T::steps()[number as usize]) % PHASES)
     }
 
@@ -124,6 +126,7 @@ impl<T: PhaseSteps> Mapping for T {
             return Err(BadCall.into());
         }
         let number = find_step(T::steps(), prior, next).ok_or(ReadFault::NoSuchStep)?;
+        // one of at most eight steps
         put_bits(number as u64, bits);
         Ok(())
     }

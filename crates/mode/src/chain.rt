@@ -106,11 +106,11 @@ impl<C: RoomyCode, M: Mapping> Carrier for Chain<C, M> {
     }
 
     fn symbol_count(&self, n: usize) -> Result<usize, BadCall> {
-        Ok(self.symbols(BitCount::new(n)?))
+        Ok(self.symbols(BitCount::try_from(n)?))
     }
 
     fn send(&self, prior: u8, bits: &[u8], symbols: &mut [u8]) -> Result<usize, BadCall> {
-        let message = Message::new(bits)?;
+        let message = Message::try_from(bits)?;
         let n = message.count();
         let count = self.symbols(n);
         if usize::from(prior) >= self.mapping.order() || symbols.len() < count {
@@ -133,7 +133,7 @@ impl<C: RoomyCode, M: Mapping> Carrier for Chain<C, M> {
         let n = bits.len();
         let count = self.symbol_count(n)?;
         if at >= list.len() || list.len() - at - 1 < count {
-            return Err(HearFault::Call(BadCall));
+            return Err(BadCall.into());
         }
         let places = count * self.mapping.width();
         // There is no heap: each buffer has room for the longest part.

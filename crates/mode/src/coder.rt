@@ -79,6 +79,7 @@ pub(crate) fn put_copies(copies: Copies, coded: &[u8], air: &mut [u8])
     ensures { air.new ≡ interleaved (copy_count copies) (length coded.now) (spread_of (copy_count copies) coded.now) }
 {
     let n = air.len();
+    // There is no heap: the buffer has room for the longest part.
     let mut copied = [0u8; MAX_AIR];
     spread(copies, coded, &mut copied[0..n]);
     let Ok(_) = interleave(copies.count(), &copied[0..n], air) else {

@@ -56,7 +56,8 @@ fn read_part<M: Mapping>(
     Ok(())
 }
 
-// Labels the bits from place `from` of a part on with their symbols.
+// Labels the bits from place `from` of a part on with their symbols. What `take_block` and `take_copies` ask too stays in
+// clauses: it is about two slices and a width, which no value here holds together.
 fn label(w: usize, from: usize, bits: &[u8], output: &mut [AirBit])
     requires some { 0 < w }
     requires few { from + length bits.now ≤ 65536 }
@@ -66,6 +67,7 @@ fn label(w: usize, from: usize, bits: &[u8], output: &mut [AirBit])
     for (i, place) in output.iter_mut().enumerate() {
         *place = AirBit {
             bit: bits[i],
+            // below 65,536, by `few`
             symbol: ((from + i) / w) as u16,
         };
     }
@@ -81,6 +83,7 @@ fn take_block(copies: usize, w: usize, from: usize, bits: &[u8], output: &mut [A
     ensures { output.new ≡ deinterleaved copies (length bits.now / copies) (labelled w from bits.now) }
 {
     let n = bits.len();
+    // There is no heap: three bits have at most twelve copies.
     let mut block = [AirBit { bit: 0, symbol: 0 }; 12];
     label(w, from, bits, &mut block[0..n]);
     let Ok(_) = deinterleave(copies, &block[0..n], output) else {
@@ -101,6 +104,7 @@ fn take_copies(copies: Copies, w: usize, bits: &[u8], output: &mut [AirBit])
     let lead = s * (3 * (total % 2));
     take_block(s, w, 0, &bits[0..lead], &mut output[0..lead]);
     let pair = 2 * s;
+    // By index, as in `read_part`.
     for (i, block) in bits[lead..].chunks_exact(pair).enumerate() {
         let from = lead + pair * i;
         take_block(s, w, from, block, &mut output[from..from + pair]);
@@ -123,6 +127,7 @@ pub(crate) fn hear_copies<M: Mapping>(
     ensures { HearsCopies M.Mapping.map (copy_count copies) list.now at count heard.new result }
 {
     let n = heard.len();
+    // There is no heap: the buffer has room for the longest part.
     let mut air = [0u8; MAX_AIR];
     read_part(mapping, list, at, count, &mut air[0..n])?;
     take_copies(copies, mapping.width(), &air[0..n], heard);
@@ -236,6 +241,7 @@ fn hear_message<C: BlockCode>(
     let Ok(short) = Shortened::new(*code, unsent) else {
         unreachable()
     };
+    // There is no heap: the buffer has room for the longest word.
     let mut word = [0u8; 63];
     let count = hear_word(&short, copies, heard, &mut word[0..n])?;
     message.copy_from_slice(&word[0..m]);

@@ -22,6 +22,7 @@ pub enum HearFault {
     Call(BadCall),
 }
 
+// By hand, as all `From` of faults here, since a derived `From` has no contract.
 impl From<PartFault> for HearFault {
     ghost from_gives = { λ e r. r ≡ HearFault.Part e };
 

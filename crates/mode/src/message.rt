@@ -16,10 +16,12 @@ pub(crate) struct BitCount {
     pub ghost carried: { Carried n },
 }
 
-impl BitCount {
-    pub fn new(n: usize) -> Result<BitCount, BadCall>
-        ensures { MatchResult result (λ c. c.n ≡ n) (λ _. Carried n → ⊥) }
-    {
+impl TryFrom<usize> for BitCount {
+    type Error = BadCall;
+
+    ghost try_from_gives = { λ n r. MatchResult r (λ c. c.n ≡ n) (λ _. Carried n → ⊥) };
+
+    fn try_from(n: usize) -> Result<BitCount, BadCall> {
         if (2..=MAX_BITS).contains(&n) {
             Ok(BitCount { n })
         } else {
@@ -36,18 +38,22 @@ pub(crate) struct Message<'a> {
     pub ghost valid: { AllByRecursion Bit bits.now } by { Prim.hlevel props },
 }
 
-impl<'a> Message<'a> {
-    pub fn new(bits: &'a [u8]) -> Result<Message<'a>, BadCall>
-        ensures { MatchResult result (λ m. m.bits.now ≡ bits.entry.now) (λ _. Carried (length bits.entry.now) → AllByRecursion Bit bits.entry.now → ⊥) }
-    {
-        let _ = BitCount::new(bits.len())?;
+impl<'a> TryFrom<&'a [u8]> for Message<'a> {
+    type Error = BadCall;
+
+    ghost try_from_gives = { λ bits r. MatchResult r (λ m. m.bits.now ≡ bits.now) (λ _. Carried (length bits.now) → AllByRecursion Bit bits.now → ⊥) };
+
+    fn try_from(bits: &'a [u8]) -> Result<Message<'a>, BadCall> {
+        BitCount::try_from(bits.len())?;
         if are_bits(bits) {
             Ok(Message { bits })
         } else {
             Err(BadCall)
         }
     }
+}
 
+impl Message<'_> {
     pub fn count(&self) -> BitCount
         ensures { result.n ≡ length self.now.bits.now }
     {

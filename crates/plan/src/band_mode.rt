@@ -20,6 +20,7 @@ type GmskMode = Choice<Chain<Bch63, Gmsk>, Chain<Plain, Gmsk>>;
 // What carries the headers and payloads of the bands.
 pub type BandMode = Choice<PhaseMode, GmskMode>;
 
+// A function for each mapping and code, since each names its own place in the choice.
 pub(crate) fn dbpsk(copies: Copies) -> BandMode
     ensures { ⟦<BandMode as Carrier>⟧.mode result ≡ chained bch63 copies dbpsk }
 {

@@ -74,6 +74,7 @@ impl RadioPlan for Band {
                 Some(dqpsk(One)),
             ],
         };
+        // 32 bits fit; `From` is not there for them
         *modes.get(rate as usize)?
     }
 }

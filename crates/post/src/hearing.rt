@@ -23,7 +23,8 @@ fn part_fault(fault: HearFault) -> PartFault
     }
 }
 
-// What is at fault in a header's bits, where the call was not a bad one.
+// What is at fault in a header's bits, where the call was not a bad one. A trait over both kinds of fault would be longer
+// than this second function.
 fn form_fault(fault: ReadHeaderFault) -> FormFault
     requires { NoBadRead fault }
     ensures { fault ≡ Form result }
@@ -47,6 +48,7 @@ pub fn read_header<P: RadioPlan>(plan: &P, list: &[u8]) -> Result<(Header, usize
     ensures { HeaderReads (P.RadioPlan.plan plan.now) list.now result }
 {
     let form = plan.form();
+    // there is no heap
     let mut buffer = [0; MAX_BITS];
     let bits = &mut buffer[..form.bits_count()];
     let spoilt = plan.header().hear(list, 0, bits).map_err(part_fault)?;
@@ -66,6 +68,7 @@ pub fn read_payload<C: Carrier>(
     requires there { There (C.Carrier.mode mode.now) list.now at (8 * length psdu.old) }
     ensures { PayloadReads (C.Carrier.mode mode.now) seed list.now at psdu.old psdu.new result }
 {
+    // there is no heap
     let mut buffer = [0; MAX_BITS];
     let bits = &mut buffer[..8 * psdu.len()];
     let spoilt = mode.hear(list, at, bits).map_err(part_fault)?;

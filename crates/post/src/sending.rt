@@ -13,7 +13,8 @@ use frame::{Header, HeaderForm, scramble};
 use mode::{Carrier, MAX_BITS};
 use plan::RadioPlan;
 
-// Writes the symbols of a preamble, one for each bit.
+// Writes the symbols of a preamble, one for each bit. It steps by the carrier, whose mapping a plan does not show, so it
+// is no case of a part's steps in `mode`.
 fn write_preamble<C: Carrier>(mode: &C, start: u8, bits: &[u8], symbols: &mut [u8])
     requires one { (C.Carrier.mode mode.now).map.w ≡ 1 }
     requires known { start < (C.Carrier.mode mode.now).map.q }
@@ -38,6 +39,7 @@ fn write_header<P: RadioPlan>(plan: &P, header: &Header, prior: u8, symbols: &mu
     ensures { symbols.new ≡ sent (P.RadioPlan.plan plan.now).header prior (header_of (P.RadioPlan.plan plan.now).form (fields_of header.now)) }
 {
     let form = plan.form();
+    // there is no heap
     let mut buffer = [0; MAX_BITS];
     let bits = &mut buffer[..form.bits_count()];
     let Ok(_) = form.write(header, bits) else {
@@ -56,6 +58,7 @@ fn write_payload<C: Carrier>(mode: &C, seed: u8, psdu: &[u8], prior: u8, symbols
     requires room { length symbols.old ≡ count_of (C.Carrier.mode mode.now) (8 * length psdu.now) }
     ensures { symbols.new ≡ sent (C.Carrier.mode mode.now) prior (scrambled seed psdu.now) }
 {
+    // there is no heap
     let mut buffer = [0; MAX_BITS];
     let bits = &mut buffer[..8 * psdu.len()];
     let Ok(_) = scramble(seed, psdu, bits) else {

@@ -1,32 +1,14 @@
-use Rattle.std.proofs.Common.{◌≡◌, ◌+◌, ◌<◌, ◌++◌, [], length, take, sym, ap, ◌∙◌, refl, arith, length-append, append-nil, length-set}
+use Rattle.std.proofs.Common.{◌≡◌, ◌+◌, ◌<◌, ◌++◌, length, take, ap, ◌∙◌, arith, length-append, length-set}
 use Rattle.std.specs.List.{AllByRecursion}
 use Rattle.std.specs.Int.Bits.{bit_xor}
 use Rattle.std.proofs.ByRecursion.{All-push}
-use Rattle.std.proofs.lemmas.List.{take_all, take_more_set, nil_from_length}
+use Rattle.std.proofs.lemmas.List.{take_more_set}
 use Rattle.std.proofs.lemmas.Nat.{xor_lt}
 use Rattle.bits.specs.Strings.{Bit}
 use Rattle.frame.specs.Numbers.{Byte}
-use Rattle.frame.specs.Scrambler.{keystream, scrambled}
+use Rattle.frame.specs.Scrambler.{scrambled}
 use Rattle.frame.proofs.Scrambling.{gives_next, unscramble_more, both_bits}
 use Rattle.frame.proofs.scrambler.unscramble.Goals as goal
-
-pub loop-i-init : goal.loop-i-init
-loop-i-init c =
-    rw (c.into_iter-i-iterator.ensures.into_iter_gives, c.enumerate-i-items.ensures.count, c.enumerate-i-items.ensures.source)
-    (rw c.chunks_exact.ensures.rest (record {
-      size = c.chunks_exact.ensures.size;
-      gives = λ k. c.new-keystream.ensures k ∙ ap (keystream c.args.seed) (omega arith);
-      left = omega arith;
-      valid = c.are_bits.ensures.0 c.if-not-are_bits.false;
-      parts = refl;
-      bytes = tt;
-    }))
-
-pub number_of-requires : goal.number_of-requires
-number_of-requires c =
-    let s = c.in-Some.ensures.steps in
-    let h = rw s.0.1.0 at c.loop-i.invariant.valid in
-    record { few = omega (arith, s.0.1.1, c.loop-i.invariant.size); valid = (both_bits c.in-Some.eight.now c.next.new.self.iter.rest.now h).0 }
 
 pub loop-i-preserved : goal.loop-i-preserved
 loop-i-preserved c =
@@ -53,18 +35,3 @@ loop-i-preserved c =
       bytes = rw (take_more_set xs i y inside)
           (All-push Byte (take i xs) y inv.bytes (xor_lt 8 c.number_of.result c.next_byte.result c.number_of.type_inv c.next_byte.type_inv));
     })
-
-pub returns : goal.returns
-returns c =
-    let s = c.in-None.ensures.steps in
-    let inv = c.loop-i.invariant in
-    let xs = c.loop-i.psdu in
-    let rest = c.loop-i.i-iterator.iter.rest.now in
-    let none : rest ≡ [] = nil_from_length rest (omega (arith, s.0.1.0, inv.size, inv.left)) in
-    let e : take c.loop-i.i-iterator.count xs ≡ xs = take_all c.loop-i.i-iterator.count xs (omega (arith, s.0.1.0, inv.size, inv.left)) in (
-      omega arith,
-      record { size = omega arith; bits = c.are_bits.ensures.0 c.if-not-are_bits.false },
-      omega arith,
-      rw e at inv.bytes,
-      sym (inv.parts ∙ ap (λ us. scrambled c.args.seed (take c.loop-i.i-iterator.count xs) ++ us) none ∙ append-nil _ ∙ ap (scrambled c.args.seed) e),
-    )

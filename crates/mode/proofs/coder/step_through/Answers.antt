@@ -1,13 +1,10 @@
 use Rattle.std.proofs.Common.{◌≡◌, ◌+◌, ◌*◌, length, sym, ap, arith}
 use Rattle.bits.specs.Strings.{Bits}
-use Rattle.mode.proofs.Coding.{going_none, going_more}
+use Rattle.mode.proofs.Coding.{going_more}
 use Rattle.mode.proofs.Strings.{bits_at}
 use Rattle.mode.proofs.coder.step_through.Given.{Over}
 use Rattle.mode.proofs.coder.step_through.Goals as goal
 use Rattle.mode.proofs.coder.step_through.Goals.{In-loop-i}
-
-pub loop-i-init : goal.loop-i-init
-loop-i-init g c = let z : c.width-w.result * 0 ≡ 0 = omega arith in rw z (going_none g.M.Mapping.map c.args.prior c.args.output.now c.args.bits.now c.requires.known)
 
 -- the symbols are so many, and the bits are theirs
 sized : (g : Over) (c : In-loop-i g) → Bits (length c.loop-i.output * g.M.Mapping.map.w) c.args.bits.now

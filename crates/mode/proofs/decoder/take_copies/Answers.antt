@@ -1,12 +1,10 @@
-use Rattle.std.proofs.Common.{◌≡◌, ◌+◌, ◌-◌, ◌*◌, ◌/◌, ◌%◌, ◌≤◌, length, take, drop, sym, ap, ◌∙◌, arith}
+use Rattle.std.proofs.Common.{◌≡◌, ◌+◌, ◌*◌, ◌/◌, ◌%◌, ◌≤◌, length, sym, ap, ◌∙◌, arith}
 use Rattle.std.specs.Iterator.Adapters.{enumerate_source, enumerate_count}
 use Rattle.std.specs.Slice.Iter.{chunks_exact_rest, chunks_exact_size}
 use Rattle.mode.specs.Orders.{Copied, deinterleaved}
 use Rattle.mode.specs.Heard.{labelled}
-use Rattle.mode.proofs.Room.{copies_four}
-use Rattle.mode.proofs.Strings.{length_part}
 use Rattle.mode.proofs.Moves.{copied_size}
-use Rattle.mode.proofs.Blocks.{taken_begin, block_there, taken_next, taken_end, blockable}
+use Rattle.mode.proofs.Blocks.{taken_begin, block_there, taken_next, taken_end}
 use Rattle.mode.proofs.decoder.take_copies.Goals as goal
 use Rattle.mode.proofs.decoder.take_copies.Goals.{After-count-s, In-Some}
 
@@ -31,33 +29,6 @@ loop-i-init c =
     let k = copied a in
     rw (c.into_iter-i-iterator.ensures.into_iter_gives, c.enumerate-i-items.ensures.count, c.enumerate-i-items.ensures.source, c.chunks_exact.ensures.size)
     (taken_begin c.count-s.result (length c.args.bits.now / c.count-s.result) c.args.w c.args.bits.now k.several k.enough (long a) _ c.take_block.new.output _ c.take_block.ensures c.chunks_exact.ensures.rest)
-
-pub overflow_mul-from : goal.overflow_mul-from
-overflow_mul-from c = omega (arith, fits (goal.at.overflow_mul-from c).In-Some, c.requires.few)
-
-pub overflow_add-from : goal.overflow_add-from
-overflow_add-from c = omega (arith, fits (goal.at.overflow_add-from c).In-Some, c.requires.few)
-
-pub overflow_add-from-in-loop-i : goal.overflow_add-from-in-loop-i
-overflow_add-from-in-loop-i c = omega (arith, fits (goal.at.overflow_add-from-in-loop-i c).In-Some, c.requires.few)
-
-pub offset_bounds-output-from : goal.offset_bounds-output-from
-offset_bounds-output-from c = omega (arith, fits (goal.at.offset_bounds-output-from c).In-Some, c.requires.few)
-
-pub slice_bounds-take_block-end-in-loop-i : goal.slice_bounds-take_block-end-in-loop-i
-slice_bounds-take_block-end-in-loop-i c = omega (arith, fits (goal.at.slice_bounds-take_block-end-in-loop-i c).In-Some, c.loop-i.auto.output, c.requires.room)
-
-pub take_block-requires-in-loop-i : goal.take_block-requires-in-loop-i
-take_block-requires-in-loop-i c =
-    let i = (goal.at.take_block-requires-in-loop-i c).In-Some in
-    let a = (goal.at.In-Some i).After-count-s in
-    let h = fits i in
-    let from = c.count-s.result * (3 * (length c.args.bits.now / c.count-s.result % 2)) + 2 * c.count-s.result * c.in-Some.i in
-    let part = take (from + 2 * c.count-s.result - from) (drop from c.loop-i.output) in
-    let b = blockable c.count-s.result 2 c.args.w from c.in-Some.block.now part
-    (copied a).several (rw c.count-s.ensures (copies_four c.args.copies)) (λ e. omega arith) (omega arith) c.requires.some (c.in-Some.ensures.steps.0.1.1 ∙ c.loop-i.invariant.pair ∙ omega arith)
-    (length_part from (2 * c.count-s.result) c.loop-i.output (omega (arith, c.loop-i.auto.output, c.requires.room)) ∙ omega arith) (omega (arith, c.requires.few)) in
-    record { copied = b.copied; small = b.small; some = b.some; few = b.few; room = b.room }
 
 pub loop-i-preserved : goal.loop-i-preserved
 loop-i-preserved c =

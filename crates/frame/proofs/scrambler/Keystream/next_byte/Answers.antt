@@ -1,4 +1,4 @@
-use Rattle.std.proofs.Common.{◌≡◌, ◌+◌, ap, ◌∙◌, arith}
+use Rattle.std.proofs.Common.{◌+◌, ap, ◌∙◌, arith}
 use Rattle.frame.specs.Registers.{given}
 use Rattle.frame.proofs.Sequence.{mask_none, mask_step}
 use Rattle.frame.proofs.scrambler.Keystream.next_byte.Goals as goal
@@ -14,9 +14,3 @@ loop-k-preserved c =
       mask_step v c.loop-k.k c.loop-k.byte c.next_bit.result c.loop-k-test.true i.0 (c.next_bit.ensures.bit ∙ i.1 0 ∙ ap (given v) (omega arith)),
       λ k. c.next_bit.ensures.rest k ∙ i.1 (k + 1) ∙ ap (given v) (omega arith),
     )
-
-pub returns : goal.returns
-returns c =
-    let e : c.loop-k.k ≡ 8 = omega arith in
-    let i = c.loop-k.invariant in
-    record { byte = rw e at i.0; rest = rw e at i.1 }
