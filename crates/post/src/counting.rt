@@ -1,4 +1,5 @@
-// How many symbols bits take.
+// How many symbols bits take. That they are no more than the longest part has is said here of a count alone, so that a
+// sum of counts fits.
 ghost use Rattle.std.specs.Prelude.{◌≡◌, ◌≤◌};
 ghost use Rattle.mode.specs.Modes.{Carried, count as count_of};
 ghost use Rattle.delivery.specs.Frames.{header_count as header_count_of};

@@ -1,4 +1,5 @@
-// The parts of a frame, written one after the other.
+// The parts of a frame, written one after the other. That the symbol before a part is one of the mapping's stays a clause
+// of each: a type of such symbols would be another for every mapping.
 ghost use Rattle.std.specs.Prelude.{◌≡◌, ◌*◌, ◌<◌, length};
 ghost use Rattle.bits.specs.Strings.{Bits};
 ghost use Rattle.frame.specs.Headers.{InRange, header as header_of};
