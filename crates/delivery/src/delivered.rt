@@ -1,5 +1,5 @@
 // What a hearing delivers, beside the PSDU at the front of the output. It is flat, and no header with a count, since
-// callers read these fields.
+// callers read these fields; they are numbers, as in a frame.
 #[derive(Clone, Copy, PartialEq, Eq, Debug)]
 pub struct Delivered {
     pub rate: u8,

@@ -1,4 +1,5 @@
-// What a header says: the rate of the PSDU, its bytes (9 to 264), the burst mark and the scrambler's seed.
+// What a header says: the rate of the PSDU, its bytes (9 to 264), the burst mark and the scrambler's seed. They are
+// numbers, since one out of its range is a refusal that callers are told.
 #[derive(Clone, Copy, PartialEq, Eq, Debug)]
 pub struct Header {
     pub rate: u8,
