@@ -95,6 +95,7 @@ pub(crate) fn step_through<M: Mapping>(mapping: &M, prior: u8, bits: &[u8], outp
 {
     let w = mapping.width();
     let mut last = prior;
+    // With the window of place i: after `zip` with `iter_mut` nothing is known of what is written.
     for (i, symbol) in output.iter_mut().enumerate() {
         let at = w * i;
         let Ok(next) = mapping.step(last, &bits[at..at + w]) else {

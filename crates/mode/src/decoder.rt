@@ -64,6 +64,7 @@ fn label(w: usize, from: usize, bits: &[u8], output: &mut [AirBit])
     requires room { length output.old ≡ length bits.now }
     ensures { output.new ≡ labelled w from bits.now }
 {
+    // With bit i: after `zip` with `iter_mut` nothing is known of what is written.
     for (i, place) in output.iter_mut().enumerate() {
         *place = AirBit {
             bit: bits[i],
@@ -163,6 +164,7 @@ fn decide_word(copies: Copies, heard: &[AirBit], word: &mut [u8])
     ensures { word.new ≡ decided (copy_count copies) (length word.old) (bits_of heard.now) }
 {
     let s = copies.count();
+    // With the window of place i: after `zip` with `iter_mut` nothing is known of what is written.
     for (i, bit) in word.iter_mut().enumerate() {
         let at = s * i;
         *bit = decide(&heard[at..at + s]);

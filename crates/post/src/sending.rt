@@ -23,6 +23,7 @@ fn write_preamble<C: Carrier>(mode: &C, start: u8, bits: &[u8], symbols: &mut [u
     ensures { symbols.new ≡ stepped (C.Carrier.mode mode.now).map (length symbols.old) start bits.now }
 {
     let mut last = start;
+    // With bit i: after `zip` with `iter_mut` nothing is known of what is written.
     for (i, symbol) in symbols.iter_mut().enumerate() {
         let Ok(next) = mode.step(last, &[bits[i]]) else {
             unreachable()
