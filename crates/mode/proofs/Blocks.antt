@@ -69,6 +69,25 @@ back_pair s t i j h =
     let e : lead s t + 2 * s * i + j ≡ lead s t + (2 * s * i + j) = omega arith in
     omega (arith, ap (back s t) e, back_high s t (2 * s * i + j), blocked_at (2 * s) (turned s 2) i j h, back_two s j h)
 
+-- where each bit has one copy, nothing moves
+back_one : (t j : ℕ) → back 1 t j ≡ j
+unfolding back turned blocked
+back_one t j =
+    elim (cases_lt j (lead 1 t)) [
+      | inl h ↦ headed_low (lead 1 t) (turned 1 3) (blocked (2 * 1) (turned 1 2)) j h ∙ omega arith
+      | inr h ↦
+          let e : j ≡ lead 1 t + (j - lead 1 t) = omega arith in
+          ap (back 1 t) e ∙ headed_high (lead 1 t) (turned 1 3) (blocked (2 * 1) (turned 1 2)) (j - lead 1 t) ∙ omega arith
+    ]
+
+pub one_copy : {A : Type 0} (t : ℕ) (xs : List A) → deinterleaved 1 t xs ≡ xs
+unfolding deinterleaved
+one_copy t xs =
+    let l = length-permuted (back 1 t) xs in
+    same_lists (permuted (back 1 t) xs) xs l (λ j d h.
+    let k : j < length xs = omega arith in
+    get_or-permuted (back 1 t) xs j d k (omega (arith, back_one t j)) ∙ ap (λ i. get_or xs i d) (back_one t j))
+
 module _ {A : Type 0} (s t : ℕ) (xs : List A) (p : 0 < s) (k : Enough t) (long : length xs ≡ s * t) where
   lead_fits : lead s t ≤ length xs
   lead_fits = omega (arith, size s t k)

@@ -101,6 +101,11 @@ fn take_copies(copies: Copies, w: usize, bits: &[u8], output: &mut [AirBit])
     ensures { output.new ≡ deinterleaved (copy_count copies) (length bits.now / copy_count copies) (labelled w 0 bits.now) }
 {
     let s = copies.count();
+    if s == 1 {
+        // One copy of each bit stands where it belongs.
+        label(w, 0, bits, output);
+        return;
+    }
     let total = bits.len() / s;
     let lead = s * (3 * (total % 2));
     take_block(s, w, 0, &bits[0..lead], &mut output[0..lead]);

@@ -1,10 +1,11 @@
 use Rattle.std.proofs.Common.{◌≡◌, ◌+◌, ◌*◌, ◌/◌, ◌%◌, ◌≤◌, length, sym, ap, ◌∙◌, arith}
 use Rattle.std.specs.Iterator.Adapters.{enumerate_source, enumerate_count}
 use Rattle.std.specs.Slice.Iter.{chunks_exact_rest, chunks_exact_size}
+use Rattle.mode.specs.Chains.{copy_count}
 use Rattle.mode.specs.Orders.{Copied, deinterleaved}
 use Rattle.mode.specs.Heard.{labelled}
 use Rattle.mode.proofs.Moves.{copied_size}
-use Rattle.mode.proofs.Blocks.{taken_begin, block_there, taken_next, taken_end}
+use Rattle.mode.proofs.Blocks.{one_copy, taken_begin, block_there, taken_next, taken_end}
 use Rattle.mode.proofs.decoder.take_copies.Goals as goal
 use Rattle.mode.proofs.decoder.take_copies.Goals.{After-count-s, In-Some}
 
@@ -22,6 +23,12 @@ fits c =
     let next = c.in-Some.ensures.steps in
     let it = enumerate_source c.loop-i.i-iterator in
     rw next.1 (block_there c.count-s.result (length c.args.bits.now / c.count-s.result) c.args.w c.args.bits.now k.several k.enough (long a) c.loop-i.output (enumerate_count c.loop-i.i-iterator) (chunks_exact_rest it) (chunks_exact_size it) c.loop-i.invariant c.in-Some.block.now _ next.0.1.0 next.0.1.1).1
+
+pub returns-then-s-eq1 : goal.returns-then-s-eq1
+returns-then-s-eq1 c =
+    let e : copy_count c.args.copies ≡ 1 = sym c.count-s.ensures ∙ c.if-s-eq1.true in
+    c.label.ensures ∙ sym (one_copy (length c.args.bits.now / 1) (labelled c.args.w 0 c.args.bits.now))
+    ∙ ap (λ s. deinterleaved s (length c.args.bits.now / s) (labelled c.args.w 0 c.args.bits.now)) (sym e)
 
 pub loop-i-init : goal.loop-i-init
 loop-i-init c =
