@@ -1,4 +1,3 @@
-ghost use Rattle.std.specs.Prelude.{refl};
 ghost use Rattle.mapping.specs.Mappings.{gmsk};
 ghost use Rattle.mapping.specs.Lawful.{gmsk_lawful};
 
@@ -15,17 +14,17 @@ impl Mapping for Gmsk {
 
     const Q: usize = 2;
 
-    ghost W = { 1 };
-
-    ghost Q = { 2 };
-
     ghost map = { gmsk };
 
-    ghost width_is = { refl };
-
-    ghost order_is = { refl };
-
     ghost lawful = { gmsk_lawful };
+
+    fn width(&self) -> usize {
+        Self::W
+    }
+
+    fn order(&self) -> usize {
+        Self::Q
+    }
 
     fn step(&self, prior: u8, bits: &[u8]) -> Result<u8, BadCall> {
         if prior > 1 || !is_string(bits, Self::W) {

@@ -7,7 +7,7 @@ mod phase;
 #[cfg(test)]
 mod tests;
 
-ghost use Rattle.std.specs.Prelude.{◌≡◌, ℕ, [], ◌∷◌, Ok};
+ghost use Rattle.std.specs.Prelude.{◌≡◌, [], ◌∷◌, Ok};
 ghost use Rattle.mapping.specs.Examples.{Examples};
 ghost use Rattle.mapping.specs.Maps.{Map, Lawful};
 ghost use Rattle.mapping.specs.Answers.{Steps, Reads};
@@ -18,33 +18,22 @@ use fault::ReadFault;
 pub use gmsk::Gmsk;
 pub use phase::{D8psk, Dbpsk, Dqpsk, PhaseSteps};
 
-// A mapping. Its ghost member `map` is the mapping as a value of the specs.
+// A mapping. Its ghost member is the mapping as a value of the specs.
 pub trait Mapping: Copy {
     // the bits in a symbol, 1 to 3
     const W: usize;
     // the count of symbol numbers, 2 to 256
     const Q: usize;
 
-    // both, as values of the specs
-    ghost W: { ℕ };
-
-    ghost Q: { ℕ };
-
     ghost map: { Map };
 
     // W, for generic code
     fn width(&self) -> usize
-        ensures { result ≡ map.w }
-    {
-        Self::W
-    }
+        ensures { result ≡ map.w };
 
     // Q, for generic code
     fn order(&self) -> usize
-        ensures { result ≡ map.q }
-    {
-        Self::Q
-    }
+        ensures { result ≡ map.q };
 
     // The symbol to which the bits lead from the prior symbol.
     fn step(&self, prior: u8, bits: &[u8]) -> Result<u8, BadCall>
@@ -53,10 +42,6 @@ pub trait Mapping: Copy {
     // Writes the bits that lead from the prior symbol to the next.
     fn read(&self, prior: u8, next: u8, bits: &mut [u8]) -> Result<(), ReadFault>
         ensures { Reads map prior next bits.old bits.new result };
-
-    ghost width_is: { W ≡ map.w };
-
-    ghost order_is: { Q ≡ map.q };
 
     ghost lawful: { Lawful map };
 }

@@ -1,5 +1,5 @@
 // Mappings of bits to steps of the phase. Phases are numbered 0 to 15, in steps of π/8, and a step is added modulo 16.
-ghost use Rattle.std.specs.Prelude.{◌≡◌, ◌<◌, ℕ, List, length, MatchOption, refl};
+ghost use Rattle.std.specs.Prelude.{◌≡◌, ◌<◌, ℕ, List, length, MatchOption};
 ghost use Rattle.std.specs.List.{AllByRecursion};
 ghost use Rattle.mapping.specs.Mappings.{phases, dbpsk_steps, dqpsk_steps, d8psk_steps};
 ghost use Rattle.mapping.specs.Tables.{Table, Leads, NoneLeads};
@@ -100,20 +100,20 @@ impl<T: PhaseSteps> Mapping for T {
     // `From` is no constant function
     const Q: usize = PHASES as usize;
 
-    ghost W = { T.BITS };
-
-    ghost Q = { 16 };
-
     ghost map = { phases T.BITS T.steps };
-
-    ghost width_is = { refl };
-
-    ghost order_is = { refl };
 
     ghost lawful = { lawful T.BITS T.steps T.table };
 
+    fn width(&self) -> usize {
+        T::BITS
+    }
+
+    fn order(&self) -> usize {
+        usize::from(PHASES)
+    }
+
     fn step(&self, prior: u8, bits: &[u8]) -> Result<u8, BadCall> {
-        if prior >= PHASES || bits.len() != Self::W {
+        if prior >= PHASES || bits.len() != T::BITS {
             return Err(BadCall);
         }
         let number = number_of(bits)?;
@@ -122,7 +122,7 @@ impl<T: PhaseSteps> Mapping for T {
     }
 
     fn read(&self, prior: u8, next: u8, bits: &mut [u8]) -> Result<(), ReadFault> {
-        if prior >= PHASES || next >= PHASES || bits.len() != Self::W {
+        if prior >= PHASES || next >= PHASES || bits.len() != T::BITS {
             return Err(BadCall.into());
         }
         let number = find_step(T::steps(), prior, next).ok_or(ReadFault::NoSuchStep)?;
