@@ -12,6 +12,13 @@ pub enum Copies {
 }
 
 impl Copies {
+    // So many copies, 1, 2 or 4: the conversion below, by name.
+    pub fn new(count: usize) -> Result<Copies, BadCall>
+        ensures { Copied count result }
+    {
+        Copies::try_from(count)
+    }
+
     pub fn count(&self) -> usize
         ensures { result ≡ copy_count self.now }
     {

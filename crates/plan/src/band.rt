@@ -43,6 +43,13 @@ impl TryFrom<u32> for Band {
 }
 
 impl Band {
+    // The band of a number, 0 to 6: the conversion above, by name.
+    pub fn new(number: u32) -> Result<Band, Fault>
+        ensures { Numbered number result }
+    {
+        Band::try_from(number)
+    }
+
     // Its number, 0 to 6.
     pub fn number(&self) -> u32
         ensures { result ≡ number_of self.now }
