@@ -1,1 +1,2 @@
 pub mod Defined
+mod Wholes

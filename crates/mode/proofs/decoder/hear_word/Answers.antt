@@ -1,4 +1,4 @@
-use Rattle.std.proofs.Common.{length, ◌∙◌}
+use Rattle.std.proofs.Common.{arith, length, ◌∙◌}
 use Rattle.mode.specs.Heard.{bits_of}
 use Rattle.mode.specs.Chains.{copy_count}
 use Rattle.mode.proofs.Room.{copies_some}
@@ -18,4 +18,4 @@ returns g c =
     let h = rw e at c.correct.ensures in
     rw c.then_some.ensures (heard_word (g.C.BlockCode.code c.args.code.now) (g.met.C.BlockCode.lawful c.args.code.now) (copy_count c.args.copies) (bits_of c.args.heard.now) (copies_some c.args.copies) c.requires.bits (length c.args.word.now) c.requires.size
     (length_bits c.args.heard.now ∙ c.requires.room) c.decide_word.new.word c.decide_word.ensures c.correct.new.bits c.in_ok-ok.field-0 h.1
-    c.spoilt-n.result c.reach.result c.spoilt-n.ensures c.reach.ensures)
+    c.spoilt-n.result _ c.spoilt-n.ensures (omega (arith, c.reach.ensures)))

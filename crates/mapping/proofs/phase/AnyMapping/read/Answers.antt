@@ -7,6 +7,8 @@ use Rattle.mapping.specs.Tables.{Leads, NoneLeads}
 use Rattle.mapping.specs.TablesLemmas.{none_leads}
 use Rattle.mapping.specs.Numbers.{number_of_bits}
 use Rattle.bits.specs.Numbers.{bits_bits, length_bits}
+use Rattle.std.proofs.lemmas.List.{reverse-reverse}
+use Rattle.mapping.proofs.Wholes.{take_whole, none_after}
 use Rattle.mapping.proofs.phase.AnyMapping.read.Goals as goal
 
 -- what is known, and the fault, where no step is found
@@ -20,6 +22,8 @@ returns-in_err-number g c =
     let n = no_step c.steps.result.now c.args.prior c.args.next c.find_step.result c.in_err-number.field-0.0 c.find_step.ensures c.in_err-number.ensures.value in
     rw (p.1, p.2, n.1) (search (rules, none_leads))
 
+-- With what holds of a part that is the whole, and of reversing twice: of bits written in part or turned round, the check
+-- asks what they say.
 pub returns : goal.returns
 returns g c =
-    let f = number_of_bits (length c.args.bits.now) c.in_ok-number.number in search (rules, bits_bits, length_bits)
+    let f = number_of_bits (length c.args.bits.now) c.in_ok-number.number in search (rules, bits_bits, length_bits, take_whole, none_after, reverse-reverse)

@@ -34,7 +34,7 @@ slice_bounds-read_payload-end g c =
 
 pub slice_bounds-read_payload-end-2 : goal.slice_bounds-read_payload-end-2
 slice_bounds-read_payload-end-2 g c =
-    sym (length-take-le c.in_ok-header.header.bytes c.args.output.now (omega (arith, (ranges (g.P.RadioPlan.plan c.args.self.now.plan) (g.met.P.RadioPlan.lawful c.args.self.now.plan) c.args.list.now c.in_ok-header.header c.in_ok-header.spoilt c.in_ok-header.ensures).high)))
+    sym (length-take-le _ c.args.output.now (omega (arith, (ranges (g.P.RadioPlan.plan c.args.self.now.plan) (g.met.P.RadioPlan.lawful c.args.self.now.plan) c.args.list.now c.in_ok-header.header c.in_ok-header.spoilt c.in_ok-header.ensures).high)))
 
 pub read_payload-requires-clause-seed : goal.read_payload-requires-clause-seed
 read_payload-requires-clause-seed g c =
