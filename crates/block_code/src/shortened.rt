@@ -1,36 +1,25 @@
-ghost use Rattle.std.specs.Prelude.{◌≡◌, ◌+◌, ◌-◌, ◌<◌, ◌≤◌, ◌++◌, length, replicate, Decides, MatchResult, ⊤};
+ghost use Rattle.std.specs.Prelude.{◌≡◌, ◌+◌, ◌-◌, ◌<◌, ◌≤◌, ◌++◌, length, replicate, Decides, MatchResult};
 ghost use Rattle.block_code.specs.Codes.{Code, shortened};
+ghost use Rattle.block_code.specs.Shortening.{unsent_in};
 ghost use Rattle.std.proofs.Common.{arith};
 ghost use Rattle.block_code.specs.ShorteningLemmas.{shortened_lawful};
 
 use super::code::{BlockCode, expect_string};
 use super::fault::CorrectFault;
 use bits::BadCall;
-use std::alloc::AllocError;
 
-// A block code whose messages begin with zeros that are never sent. At least one message bit is left.
-#[derive(Copy)]
-pub struct Shortened<C: BlockCode> {
+// A block code whose messages begin with zeros that are never sent. It is held with any number of them, and the code
+// that it is has at least one message bit left.
+#[derive(Clone, Copy)]
+pub struct Shortened<C> {
     code: C,
     unsent: usize,
-    ghost short: { unsent < (C.BlockCode.code code).k },
-}
-
-// By hand, since `Clone` cannot be derived where a ghost field stands.
-impl<C: BlockCode> Clone for Shortened<C> {
-    ghost is_clone = { λ x y. y ≡ x };
-
-    ghost is_infallible = { λ _. ⊤ };
-
-    fn clone(&self) -> Result<Shortened<C>, AllocError> {
-        Ok(*self)
-    }
 }
 
 impl<C: BlockCode> Shortened<C> {
     // The code shortened by so many bits, fewer than a message has.
     pub fn new(code: C, unsent: usize) -> Result<Shortened<C>, BadCall>
-        ensures { MatchResult result (λ s. (short : unsent < (C.BlockCode.code code).k) × (s ≡ record { code = code; unsent = unsent; short = short })) (λ _. (C.BlockCode.code code).k ≤ unsent) }
+        ensures { MatchResult result (λ s. (unsent < (C.BlockCode.code code).k) × (s ≡ record { code = code; unsent = unsent })) (λ _. (C.BlockCode.code code).k ≤ unsent) }
     {
         if unsent >= code.message_bits() {
             return Err(BadCall);
@@ -40,20 +29,22 @@ impl<C: BlockCode> Shortened<C> {
 
     // How many bits of a message are never sent.
     pub fn unsent(&self) -> usize
-        ensures { result ≡ self.now.unsent }
+        ensures { result ≡ unsent_in (C.BlockCode.code self.now.code) self.now.unsent }
     {
-        self.unsent
+        self.unsent.min(self.code.message_bits() - 1)
     }
 }
 
 impl<C: BlockCode> BlockCode for Shortened<C> {
-    ghost code = { λ s. shortened (C.BlockCode.code s.code) s.unsent };
+    ghost code = { λ s. shortened (C.BlockCode.code s.code) (unsent_in (C.BlockCode.code s.code) s.unsent) };
 
     ghost lawful = { λ c.
-        shortened_lawful (C.BlockCode.code c.code) (C.BlockCode.lawful c.code) c.unsent c.short };
+        let code = C.BlockCode.code c.code in
+        let L = C.BlockCode.lawful c.code in
+        shortened_lawful code L (unsent_in code c.unsent) (omega arith) };
 
     fn message_bits(&self) -> usize {
-        self.code.message_bits() - self.unsent
+        self.code.message_bits() - self.unsent()
     }
 
     fn parity_bits(&self) -> usize {
@@ -66,7 +57,7 @@ impl<C: BlockCode> BlockCode for Shortened<C> {
 
     fn encode(&self, message: &[u8], parity: &mut [u8]) -> Result<(), BadCall> {
         let k = self.code.message_bits();
-        let s = self.unsent;
+        let s = self.unsent();
         expect_string(message, k - s)?;
         let full = after_zeros(s, message);
         self.code.encode(&full[0..k], parity)
@@ -75,7 +66,7 @@ impl<C: BlockCode> BlockCode for Shortened<C> {
     // Corrects in the full code with the zeros in front. A word with a one among them is no word of this code.
     fn correct(&self, bits: &mut [u8]) -> Result<usize, CorrectFault> {
         let n = self.code.message_bits() + self.code.parity_bits();
-        let s = self.unsent;
+        let s = self.unsent();
         expect_string(bits, n - s)?;
         let mut full = after_zeros(s, bits);
         let count = self.code.correct(&mut full[0..n])?;
