@@ -1,13 +1,19 @@
 -- The narrowband header: what is written is read again, and what is read was written.
-use Rattle.std.specs.Prelude.{◌≡◌, ℕ, ◌+◌, ◌-◌, ◌<◌, ◌≤◌, Bool, List, [], ◌∷◌, ◌++◌, map, length, take, drop, Ok, slice_index, slice_index_or, slice_set, refl}
+use Rattle.std.specs.Prelude.{◌≡◌, ℕ, ◌+◌, ◌-◌, ◌*◌, ◌<◌, ◌≤◌, Bool, List, [], ◌∷◌, ◌++◌, map, length, take, drop, Ok, Err, Result, slice_index, slice_index_or, slice_set, refl}
 use Rattle.std.proofs.Common.{sym, ap, subst, ◌∙◌, arith}
 use borrow.Rule.Slice.PartMut.{put_mid, post_of}
 use Rattle.std.specs.List.{range_with_len}
 use Rattle.std.proofs.lemmas.List.{append-nil, length-drop, take_at, drop_at, drop_all, take-append-drop}
 use Rattle.std.proofs.lemmas.List.FromFn.{fill_by_all}
 use Rattle.bits.specs.Strings.{Bits}
+use Rattle.frame.specs.declared.header.Header.{Header}
+use Rattle.frame.specs.declared.fault.FormFault.{FormFault}
+use Rattle.frame.specs.declared.fault.FormFault.TheVariants.{Rate}
+use Rattle.frame.specs.declared.fault.ReadHeaderFault.{ReadHeaderFault}
+use Rattle.frame.specs.declared.fault.ReadHeaderFault.TheVariants.{Form as Faulty}
 use Rattle.frame.specs.Numbers.{low_bits, number_of}
-use Rattle.frame.specs.Headers.{Fields, header, InRange, Carried, Read, Lawful}
+use Rattle.frame.specs.Headers.{Fields, header, InRange, Checked, Clear, Carried, Read, Lawful}
+use Rattle.frame.specs.Answers.{fields_of, Reads}
 use Rattle.frame.specs.Narrowband.{register, hcs, said, fields, narrowband}
 use Rattle.frame.specs.Numbering.{cons_bits, append_bits, take_bits, drop_bits, low_bits_bits, number_low, number_below, low_number}
 use Rattle.frame.specs.Reading.{bit_at}
@@ -122,3 +128,42 @@ module _ (was us vs : List ℕ) (x : Fields) (long : length was ≡ 19) (first :
       ap (λ ts. take 15 (placed was us vs x) ++ (last ++ ts)) tail
       ∙ ap (λ ts. take 15 (placed was us vs x) ++ ts) (append-nil last ∙ f ∙ e)
       ∙ ap (λ ts. ts ++ hcs ts) (body r)
+
+-- ---- what the code reads
+
+-- the rate, and the bits after it
+abbrev pub rated : List ℕ → ℕ
+rated bits = slice_index bits 0 + 2 * slice_index bits 1 + 4 * slice_index bits 2
+
+abbrev pub rest_of : List ℕ → List ℕ
+rest_of bits = take (length bits - 3) (drop 3 bits)
+
+rated_is : (bits : List ℕ) → length bits ≡ 19 → rated bits ≡ (fields bits).rate
+unfolding fields
+rated_is bits l =
+    subst (λ us. rated us ≡ number_of (take 3 us)) (sym (fill_by_all (λ i. slice_index bits i) bits 19 0 l (λ k h. refl))) (omega arith)
+
+read_is : (bits : List ℕ) (n : ℕ) → length bits ≡ 19 → n ≡ number_of (take 8 (drop 1 (rest_of bits)))
+    → ◌≡◌ {A = Fields} (record { rate = rated bits; bytes = 9 + n; burst = slice_index (rest_of bits) 10; seed = slice_index (rest_of bits) 11 }) (fields bits)
+unfolding fields
+read_is bits n l e =
+    let same : (P : List ℕ → Type 0) → P (map (λ i. slice_index bits i) (range_with_len 0 19)) → P bits =
+    λ P h. subst P (sym (fill_by_all (λ i. slice_index bits i) bits 19 0 l (λ k h. refl))) h in
+    let r = rated_is bits l in
+    let b : number_of (take 8 (drop 1 (rest_of bits))) ≡ number_of (take 8 (drop 4 bits)) =
+    same (λ us. number_of (take 8 (drop 1 (rest_of us))) ≡ number_of (take 8 (drop 4 us))) refl in
+    let u : slice_index_or (rest_of bits) 10 0 ≡ slice_index_or bits 13 0 = same (λ us. slice_index (rest_of us) 10 ≡ slice_index us 13) refl in
+    let s : slice_index_or (rest_of bits) 11 0 ≡ slice_index_or bits 14 0 = same (λ us. slice_index (rest_of us) 11 ≡ slice_index us 14) refl in
+    λ i. record { rate = r i; bytes = 9 + (e ∙ b) i; burst = u i; seed = s i }
+
+module _ (legal : List Bool) (bits : List ℕ) (valid : Bits 19 bits) (checked : Checked narrowband bits) (clear : Clear narrowband bits) where
+  pub fields_read : (h : Header) → Carried legal (rated bits) → (n : ℕ) → n ≡ number_of (take 8 (drop 1 (rest_of bits)))
+      → h ≡ record { rate = rated bits; bytes = 9 + n; burst = slice_index (rest_of bits) 10; seed = slice_index (rest_of bits) 11 }
+      → Reads narrowband legal bits (Ok h)
+  fields_read h c n e f =
+      (valid, (checked, clear, subst (Carried legal) (rated_is bits valid.size) c, ap fields_of f ∙ read_is bits n valid.size e))
+
+  pub rate_refused : (r : Result Header ReadHeaderFault) (e : FormFault) → (Carried legal (rated bits) → ⊥)
+      → e ≡ Rate (rated bits) → r ≡ Err (Faulty e) → Reads narrowband legal bits r
+  rate_refused r e n f g =
+      subst (Reads narrowband legal bits) (sym (g ∙ ap (λ d. Err (Faulty d)) f)) (valid, (checked, clear, n, rated_is bits valid.size))

@@ -17,7 +17,7 @@ use crate::fault::{FormFault, ReadHeaderFault};
 use crate::form::HeaderForm;
 use crate::header::Header;
 use crate::numbers::{number_of, put_low_bits};
-use bits::{BadCall, is_string, put_bits};
+use bits::{BadCall, are_bits, put_bits};
 
 #[derive(Clone, Copy)]
 pub struct NarrowbandHeader;
@@ -114,21 +114,23 @@ impl HeaderForm for NarrowbandHeader {
         Ok(())
     }
 
-    #[tactic(auto, unfolding(crate::specs::Narrowband::fields))]
     fn read(&self, bits: &[u8], legal: &[bool; 4]) -> Result<Header, ReadHeaderFault> {
-        if !is_string(bits, BITS) {
+        let [rate0, rate1, rate2, rest @ ..] = bits else {
+            return Err(BadCall.into());
+        };
+        if bits.len() != BITS || !are_bits(bits) {
             return Err(BadCall.into());
         }
         verify_hcs(bits)?;
         verify_reserved(bits)?;
-        let rate = number_of(&bits[0..3]);
+        let rate = *rate0 + 2 * *rate1 + 4 * *rate2;
         verify_rate(rate, legal)?;
-        let length = number_of(&bits[4..12]);
+        let length = number_of(&rest[1..9]);
         Ok(Header {
             rate,
             bytes: 9 + usize::from(length),
-            burst: bits[13],
-            seed: bits[14],
+            burst: rest[10],
+            seed: rest[11],
         })
     }
 }
