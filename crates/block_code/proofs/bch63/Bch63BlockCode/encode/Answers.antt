@@ -9,5 +9,5 @@ returns c =
     let twelve : length c.args.parity.now ≡ 12 = omega arith in (
       c.in_ok-expect_string.ensures,
       twelve,
-      c.put_bits.ensures ∙ ap₂ bits_of twelve (c.from.ensures ∙ c.remainder.ensures),
+      c.put_bits.ensures ∙ ap₂ bits_of twelve (omega (arith, c.from.ensures, c.remainder.ensures)),
     )
