@@ -1,4 +1,4 @@
-use Rattle.std.proofs.Common.{◌≡◌, ◌+◌, ◌*◌, ◌/◌, ◌%◌, ◌≤◌, length, sym, ap, ◌∙◌, arith}
+use Rattle.std.proofs.Common.{◌≡◌, ◌+◌, ◌*◌, ◌/◌, ◌%◌, ◌≤◌, length, sym, ap, ap₂, ◌∙◌, arith}
 use Rattle.std.specs.Iterator.Adapters.{enumerate_source, enumerate_count}
 use Rattle.std.specs.Slice.Iter.{chunks_exact_rest, chunks_exact_size}
 use Rattle.mode.specs.Chains.{copy_count}
@@ -27,7 +27,8 @@ fits c =
 pub returns-then-s-eq1 : goal.returns-then-s-eq1
 returns-then-s-eq1 c =
     let e : copy_count c.args.copies ≡ 1 = sym c.count-s.ensures ∙ c.if-s-eq1.true in
-    c.label.ensures ∙ sym (one_copy (length c.args.bits.now / 1) (labelled c.args.w 0 c.args.bits.now))
+    c.label.ensures ∙ ap₂ (λ v i. labelled v i c.args.bits.now) (omega arith) (omega arith)
+    ∙ sym (one_copy (length c.args.bits.now / 1) (labelled c.args.w 0 c.args.bits.now))
     ∙ ap (λ s. deinterleaved s (length c.args.bits.now / s) (labelled c.args.w 0 c.args.bits.now)) (sym e)
 
 pub loop-i-init : goal.loop-i-init
