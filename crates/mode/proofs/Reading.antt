@@ -56,9 +56,9 @@ module _ (f : Map) (list : List ℕ) (at many : ℕ) where
         let v : Unread f (get_or list (at + 1 + k - 1) 0) (get_or list (at + 1 + k) 0) = rw (d, ← h.prior, ← e) u in
         (rw e (first_amiss l (omega arith, inr (omega arith, v))), λ t. omega arith)
 
-    pub sofar_more : (i s v : ℕ) (ds cs : List ℕ) → i ≡ at + 1 + k → k < many → at + 1 + many ≤ length list → s ≡ get_or list i 0 → s < f.q → v ≡ f.w → Bits f.w ds → f.next p ds ≡ s
-        → take (v * k + v) cs ≡ take (v * k) bs ++ ds → Sofar f list at many cs (k + 1) s
-    sofar_more i s v ds cs e l t se sq ve b n o =
+    pub sofar_more : (i s u v : ℕ) (ds cs : List ℕ) → i ≡ at + 1 + k → k < many → at + 1 + many ≤ length list → s ≡ get_or list i 0 → u ≡ s → s < f.q → v ≡ f.w → Bits f.w ds → f.next p ds ≡ s
+        → take (v * k + v) cs ≡ take (v * k) bs ++ ds → Sofar f list at many cs (k + 1) u
+    sofar_more i s u v ds cs e l t se ue sq ve b n o =
         let a = f.w * k in
         let c : take (f.w * (k + 1)) cs ≡ take a bs ++ ds = ap (λ j. take j cs) (omega arith) ∙ (rw ve at o) in
         let ss = take many (drop (at + 1) list) in
@@ -66,7 +66,7 @@ module _ (f : Map) (list : List ℕ) (at many : ℕ) where
         let long : length ss ≡ many = length-take-le many (drop (at + 1) list) (simp length-drop (omega arith)) in
         let x : get_or ss k 0 ≡ s = get_or-take many (drop (at + 1) list) k 0 l ∙ get_or-drop (at + 1) list k 0 ∙ ap (λ j. get_or list j 0) (sym e) ∙ sym se in
         let y : s ≡ get_or list (at + 1 + k) 0 = se ∙ ap (λ j. get_or list j 0) e in
-        record {
+        rw ue (record {
           prior = y ∙ ap (λ j. get_or list j 0) (omega arith);
           fine = λ j m z. elim (cases_eq j (at + 1 + k)) [
             | inl q ↦ elim z.1 [
@@ -92,7 +92,7 @@ module _ (f : Map) (list : List ℕ) (at many : ℕ) where
               ap (λ us. stepped f many (get_or list at 0) (us ++ es)) c ∙ ap (stepped f many (get_or list at 0)) (append_assoc (take a bs) ds es) ∙ h.leads (ds ++ es)
               ∙ ap (λ us. take k ss ++ us) z ∙ sym (append_assoc (take k ss) (s ∷ []) (stepped f (many - (k + 1)) s es))
               ∙ ap (λ us. us ++ stepped f (many - (k + 1)) s es) (sym g);
-        }
+        })
 
     pub sofar_all : many ≤ k → k ≤ many → at + 1 + many ≤ length list → length bs ≡ many * f.w → Read f list at many bs
     sofar_all l m t e =

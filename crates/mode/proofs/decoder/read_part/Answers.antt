@@ -42,8 +42,8 @@ loop-k-preserved g c =
     let s = symbol g b in
     let r = answered c.read.result c.map_err.result c.in_ok-map_err.field-0 c.map_err.ensures.variant c.in_ok-map_err.was in
     let h = rw r.1 at c.read.ensures in
-    sofar_more f c.args.list.now c.args.at c.args.count g.met.M.Mapping.lawful c.loop-k.bits c.loop-k.k c.loop-k.prior c.loop-k.invariant i _ c.width-w.result c.read.new.bits _ refl s.0 c.requires.there s.1
-    h.0.to c.width-w.ensures h.1 h.2
+    sofar_more f c.args.list.now c.args.at c.args.count g.met.M.Mapping.lawful c.loop-k.bits c.loop-k.k c.loop-k.prior c.loop-k.invariant i _ _ c.width-w.result c.read.new.bits _ refl s.0 c.requires.there s.1
+    (omega (arith, s.1)) h.0.to c.width-w.ensures h.1 h.2
     (take-put_mid (c.width-w.result * c.loop-k.k) (c.width-w.result * c.loop-k.k + c.width-w.result - c.width-w.result * c.loop-k.k) c.loop-k.bits c.read.new.bits (c.width-w.result * c.loop-k.k + c.width-w.result)
     (omega (arith, h.1.size, c.width-w.ensures)) (omega (arith, there g b)))
 
